@@ -1,0 +1,4 @@
+pub mod Decided
+pub mod Promises
+pub mod FirstFaults
+pub mod FirstDumps

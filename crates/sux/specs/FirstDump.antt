@@ -1,0 +1,15 @@
+-- The dump of a static function over one chunk, whose cells are whole words.
+use Rattle.std.specs.Prelude.{ℕ, List, [], ◌∷◌}
+use Rattle.sx_spec.specs.declared.Method.TheVariants.{Mwhc}
+use Rattle.sx_spec.specs.Chunks.{segment}
+use Rattle.sx_spec.specs.Laws.{func_dump}
+use Rattle.sx_spec.specs.Layout.{Dump}
+use Rattle.sx_spec.specs.StaticFunction.{Function}
+
+-- the function of so many pairs in one chunk, built by its first try
+abbrev pub first_function : ℕ → List ℕ → Function
+first_function pairs cells = record { width = 64; pairs = pairs; chunks = record { segment = segment Mwhc pairs; try = 0 } ∷ []; cells = cells }
+
+-- its dump, of seed 0 and whole signatures
+abbrev pub first_dump : ℕ → List ℕ → Dump
+first_dump keys cells = func_dump Mwhc 192 keys 0 (first_function keys cells)

@@ -1,0 +1,4 @@
+//! Builds and queries static functions over sorted keys.
+#![tactic(auto)]
+
+fn main() {}
