@@ -1,5 +1,7 @@
 -- The dump of a static function over one chunk, whose cells are whole words.
-use Rattle.std.specs.Prelude.{ℕ, List, [], ◌∷◌}
+use Rattle.std.specs.Prelude.{ℕ, List, [], ◌∷◌, codes}
+use Rattle.sx_spec.specs.Command.{Text}
+use Rattle.sx_spec.specs.Messages.{message}
 use Rattle.sx_spec.specs.declared.Method.TheVariants.{Mwhc}
 use Rattle.sx_spec.specs.Chunks.{segment}
 use Rattle.sx_spec.specs.Laws.{func_dump}
@@ -13,3 +15,7 @@ first_function pairs cells = record { width = 64; pairs = pairs; chunks = record
 -- its dump, of seed 0 and whole signatures
 abbrev pub first_dump : ℕ → List ℕ → Dump
 first_dump keys cells = func_dump Mwhc 192 keys 0 (first_function keys cells)
+
+-- what is told of a file of another form
+abbrev pub first_unknown : Text
+first_unknown = message (codes "dump: unknown form" ∷ [])

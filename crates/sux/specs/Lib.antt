@@ -1,1 +1,3 @@
 pub mod FirstDump
+pub mod KeyLines
+pub mod Writing

@@ -1,4 +1,7 @@
-//! Builds and queries static functions over sorted keys.
+//! Numbers sorted keys without keeping them: builds static functions, and queries them.
 #![tactic(auto)]
+
+
+mod messages;
 
 fn main() {}
