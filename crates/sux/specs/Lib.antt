@@ -1,3 +1,4 @@
 pub mod FirstDump
 pub mod KeyLines
 pub mod Writing
+pub mod Progress
