@@ -4,3 +4,4 @@ pub mod FirstFaults
 pub mod FirstDumps
 pub mod FedLines
 pub mod Advances
+pub mod Endings
