@@ -1,5 +1,5 @@
 //! A shelf of files by name, of which at most one is in use, with a count of its faults.
-ghost use Rattle.std.specs.Prelude.{◌≡◌, ◌≢◌, ◌+◌, ◌^◌, ◌<◌, ◌≤◌, ◌⊎◌, List, [], ℕ, Bool, true, false, Option, Some, Ok, Err, length, take, IfOk, OnOk, OnErr, IsSome};
+ghost use Rattle.std.specs.Prelude.{◌≡◌, ◌≢◌, ◌+◌, ◌^◌, ◌<◌, ◌≤◌, ◌⊎◌, List, [], ℕ, Bool, true, false, Option, Some, Ok, Err, length, take, vec_len, IfOk, OnOk, OnErr, IsSome};
 ghost use Rattle.std.specs.Io.{ReadsAtMost};
 ghost use Rattle.std.specs.Io.KnownBytes.{ReadConsumes};
 ghost use Rattle.sx_spec.specs.Causes.{HasCause, Rose};
@@ -104,13 +104,25 @@ pub enum ReadFault {
 }
 
 impl From<AllocError> for ReadFault {
-    fn from(_error: AllocError) -> ReadFault {
+    ghost use Rattle.std.specs.Prelude.{◌≡◌};
+    ghost use Rattle.sx_edge.specs.declared.shelf.ReadFault.TheVariants.{Memory};
+
+    ghost from_gives = { λ _ e. e ≡ Memory };
+
+    fn from(_: AllocError) -> ReadFault {
         ReadFault::Memory
     }
 }
 
 // The bytes of one read.
 const PIECE: usize = 65536;
+
+// Room for one read.
+fn piece_room(alloc: Global) -> Result<Vec<u8>, AllocError>
+    ensures { IfOk result (λ piece. vec_len piece ≡ PIECE) }
+{
+    vec![in alloc; 0u8; PIECE]
+}
 
 /// Reads the rest of the file being read, and no more than `max + 1` bytes: a result of more than
 /// `max` bytes tells that there are more.
@@ -125,12 +137,12 @@ pub fn read_file<F: Shelf>(alloc: Global, files: &mut F, max: u64) -> Result<Vec
     ensures later { F.faults files.old ≤ F.faults files.new }
 {
     let mut bytes = Vec::new(alloc);
-    let mut piece = vec![in alloc; 0u8; PIECE]?;
+    let mut piece = piece_room(alloc)?;
     'pieces: while bytes.len() as u64 <= max {
         let room = max + 1 - bytes.len() as u64;
         let wanted = if room < PIECE as u64 { room as usize } else { PIECE };
         match files.read(&mut piece[..wanted]) {
-            Ok(0) => break,
+            Ok(0) => return Ok(bytes),
             Ok(count) => bytes.extend_from_slice(&piece[..count])?,
             Err(Failed) => return Err(ReadFault::Failed),
         }

@@ -1,0 +1,12 @@
+use Rattle.std.proofs.Common.{arith, ◌∙◌, subst}
+use Rattle.sx_edge.specs.Shelf.{AppendsFile}
+use Rattle.sx_edge.proofs.Writing.{wrote_file_more}
+use Rattle.sx_edge.proofs.shelf.write_file.Goals as goal
+
+pub loop-rest-preserved : goal.loop-rest-preserved
+loop-rest-preserved g c = record {
+  wrote = wrote_file_more _ c.in-Ok.count c.loop-rest.invariant.wrote (rw c.loop-rest.invariant.same at c.in-Ok.ensures.bytes);
+  stays = c.in-Ok.ensures.stays;
+  same = c.in-Ok.ensures.same ∙ c.loop-rest.invariant.same;
+  later = omega (arith, c.loop-rest.invariant.later, c.in-Ok.ensures.cause.later);
+}
