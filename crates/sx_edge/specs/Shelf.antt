@@ -1,5 +1,6 @@
 -- Files by name, of which at most one is in use.
-use Rattle.std.specs.Prelude.{◌≡◌, ⊤, ℕ, ◌+◌, List, ◌++◌, Option, Some, None, IsSome, IfSome, take}
+use Rattle.std.specs.Prelude.{◌≡◌, ⊤, ℕ, ◌+◌, List, ◌++◌, Option, Some, None, IsSome, IfSome, take, length}
+use Rattle.std.specs.Io.KnownBytes.{Consumes, IsAtEnd}
 use Rattle.sx_spec.specs.Command.{Text}
 use Rattle.sx_spec.specs.World.{Files, SetsFile}
 use Rattle.sx_spec_strings.specs.Bits.{IsPrefix}
@@ -33,3 +34,11 @@ AppendsFilePrefix to old new bytes = (part : List ℕ) × IsPrefix part bytes ×
 -- what was read is the first bytes that were left, all of them where they are at most max, and else max + 1
 abbrev pub ReadsFile : ℕ → Option (List ℕ) → List ℕ → Type 0
 ReadsFile max rest bytes = IfSome rest (λ all. bytes ≡ take (max + 1) all)
+
+-- so many bytes were taken from the front of what was left and put behind those there, and none only at the end
+pub record TakesPiece (before after : Option (List ℕ)) (old new : List ℕ) (count : ℕ) : Type 0 where
+  pub part : List ℕ
+  pub number : length part ≡ count
+  pub grown : new ≡ old ++ part
+  pub taken : Consumes before after part
+  pub end : count ≡ 0 → IsAtEnd after

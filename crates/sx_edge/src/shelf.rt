@@ -5,7 +5,7 @@ ghost use Rattle.std.specs.Io.KnownBytes.{ReadConsumes};
 ghost use Rattle.sx_spec.specs.Causes.{HasCause, Rose};
 ghost use Rattle.sx_spec.specs.Command.{Text};
 ghost use Rattle.sx_spec.specs.World.{Files, KeepsFiles, SetsFile};
-ghost use Rattle.sx_edge.specs.Shelf.{Use, idle, reading, writing, Opens, IsAbsent, AppendsFile, AppendsFilePrefix, ReadsFile};
+ghost use Rattle.sx_edge.specs.Shelf.{Use, idle, reading, writing, Opens, IsAbsent, AppendsFile, AppendsFilePrefix, ReadsFile, TakesPiece};
 
 use crate::source::Failed;
 use std::alloc::{AllocError, Global};
@@ -140,12 +140,30 @@ pub fn read_file<F: Shelf>(alloc: Global, files: &mut F, max: u64) -> Result<Vec
     let mut piece = piece_room(alloc)?;
     'pieces: while bytes.len() as u64 <= max {
         let room = max + 1 - bytes.len() as u64;
-        let wanted = if room < PIECE as u64 { room as usize } else { PIECE };
-        match files.read(&mut piece[..wanted]) {
-            Ok(0) => return Ok(bytes),
-            Ok(count) => bytes.extend_from_slice(&piece[..count])?,
-            Err(Failed) => return Err(ReadFault::Failed),
+        let part = &mut piece[..room.min(PIECE as u64) as usize];
+        if read_piece(files, &mut bytes, part)? == 0 {
+            return Ok(bytes);
         }
     }
     Ok(bytes)
+}
+
+// Reads once, and puts the bytes that came behind those that are there. Gives their number.
+fn read_piece<F: Shelf>(files: &mut F, bytes: &mut Vec<u8>, part: &mut [u8]) -> Result<usize, ReadFault>
+    requires reading { F.in_use files.old ≡ reading }
+    requires room { 0 < length part.old }
+    ensures took { IfOk result (λ count. TakesPiece (F.rest files.old) (F.rest files.new) bytes.old.items bytes.new.items count) }
+    ensures bound { IfOk result (λ count. count ≤ length part.old) }
+    ensures stays { F.in_use files.new ≡ reading }
+    ensures files { KeepsFiles (F.files files.old) (F.files files.new) }
+    ensures failed { result ≡ Err ReadFault.Failed → Rose (F.faults files.old) (F.faults files.new) }
+    ensures later { F.faults files.old ≤ F.faults files.new }
+{
+    match files.read(part) {
+        Ok(count) => {
+            bytes.extend_from_slice(&part[..count])?;
+            Ok(count)
+        }
+        Err(Failed) => Err(ReadFault::Failed),
+    }
 }
