@@ -65,7 +65,7 @@ module _ (p : Profile) (task : Task) (before after : World) (ticks : ℕ) (quiet
       → ((name : Text) → task ≡ query name → QueryAfterFault p name before after at_error) → QueryReads p task before after at_output ticks → QueryReads p task before after at_error ticks
       → KeepsUnused task before after → NoCountFell before after → Promise p task before after ticks result
   by_message o due text text_is status result same no_fault no_memory no_file files input out (inl told) queries reads reads_cut unused counts =
-      subst (Promise p task before after ticks) (sym told.status)
+      subst (Promise p task before after ticks) (sym told.is)
       (by_outcome p task before after ticks status o due same no_fault no_memory
         (record {
           files = subst (λ f. ChangesFiles f before.files after.files) (sym no_file) files;
@@ -76,7 +76,7 @@ module _ (p : Profile) (task : Task) (before after : World) (ticks : ℕ) (quiet
         reads unused counts)
   by_message o due text text_is status result same no_fault no_memory no_file files input out (inr cut) queries reads reads_cut unused counts =
       let (part, begins, err) = cut.err in
-      subst (Promise p task before after ticks) (sym cut.status)
+      subst (Promise p task before after ticks) (sym cut.is)
       (cut_off part (inl (inr (o, due, subst (IsPrefix part) (sym text_is) begins))) err cut.cause o.out out (inr (o, due, ([], sym (append-nil o.out)))) files queries reads_cut unused counts)
 
   -- memory was wanting, and that is told
@@ -86,9 +86,9 @@ module _ (p : Profile) (task : Task) (before after : World) (ticks : ℕ) (quiet
       → ((name : Text) → task ≡ query name → QueryAfterFault p name before after at_error) → QueryReads p task before after at_output ticks → QueryReads p task before after at_error ticks
       → KeepsUnused task before after → NoCountFell before after → Promise p task before after ticks result
   by_memory_message result files out input (inl told) queries reads reads_cut unused counts =
-      subst (Promise p task before after ticks) (sym told.status)
+      subst (Promise p task before after ticks) (sym told.is)
       (by_memory p task before after ticks (record { files = files; out = out; err = told.err; input = input }) reads unused counts)
   by_memory_message result files out input (inr cut) queries reads reads_cut unused counts =
       let (part, begins, err) = cut.err in
-      subst (Promise p task before after ticks) (sym cut.status)
+      subst (Promise p task before after ticks) (sym cut.is)
       (cut_off part (inr begins) err cut.cause [] (kept_appends before.out after.out out) (inl refl) files queries reads_cut unused counts)

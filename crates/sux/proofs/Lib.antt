@@ -5,3 +5,5 @@ pub mod FirstDumps
 pub mod FedLines
 pub mod Advances
 pub mod Endings
+pub mod Builds
+pub mod Shelves

@@ -1,4 +1,5 @@
 pub mod FirstDump
+pub mod FirstBuild
 pub mod KeyLines
 pub mod Writing
 pub mod Telling

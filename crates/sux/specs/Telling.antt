@@ -9,12 +9,12 @@ use Rattle.sx_spec.specs.Command.{Text}
 
 -- the message was told whole, and the status is the one that goes with it
 pub record IsTold (text : Text) (status : Status) (old new : Option (List ℕ)) (result : Status) : Type 0 where
-  pub status : result ≡ status
+  pub is : result ≡ status
   pub err : Appends old new text
 
 -- a write failed in the midst of it
 pub record IsCutOff (text : Text) (old new : Option (List ℕ)) (before after : ℕ) (result : Status) : Type 0 where
-  pub status : result ≡ Fault
+  pub is : result ≡ Fault
   pub err : AppendsPrefix old new text
   pub cause : Rose before after
 

@@ -2,6 +2,8 @@
 #![tactic(auto)]
 
 
+mod dump;
 mod messages;
+mod telling;
 
 fn main() {}
