@@ -8,12 +8,44 @@ use Rattle.std.proofs.lemmas.List.{length-append}
 use Rattle.sx_spec.specs.Command.{Text}
 use Rattle.sx_spec_strings.specs.Lines.{lines, complete_lines, unfinished_line}
 use Rattle.sux.specs.KeyLines.{HasNoFeed, fed}
-use Rattle.sux.specs.Progress.{Going, Over, Progress, ReadsAll, FailsBehind, StopsAt}
+use Rattle.sux.specs.Progress.{Begins, BreaksBehind, Going, Over, Progress, ReadsAll, FailsBehind, StopsAt}
 use Rattle.sux.proofs.FedLines.{lines-fed, lines-last, lines-fed_all, fed-push, all_push, unfinished-fed, complete-fed, append_nothing}
 
 pub starts : (first : Option (List ℕ)) → Progress first first [] false []
 starts first = record { state = inl (record { taken = Consumes-nil first; no_feeds = tt }); end = λ e. absurd cc }
 
+
+-- what was taken, and all that was there, begins with the lines that were read
+pub breaks_behind : (first now : Option (List ℕ)) (held : List ℕ) (ended : Bool) (ls : List Text) → Progress first now held ended ls → BreaksBehind first now ls
+breaks_behind first now held ended ls p = elim p.state [
+  | inl g ↦ record {
+    taken = fed ls ++ held;
+    consumed = g.taken;
+    more = lines held;
+    are = lines-fed_all ls held g.no_feeds;
+    told = going first now g.taken g.no_feeds;
+  }
+  | inr o ↦ record {
+    taken = fed o.front ++ o.last;
+    consumed = o.taken;
+    more = [];
+    are = whole o ∙ sym (append_nothing ls);
+    told = over first now o (p.end o.ended_here) o.taken;
+  }
+]
+  where
+    whole : (o : Over first now held ended ls) → lines (fed o.front ++ o.last) ≡ ls
+    whole o = lines-fed_all o.front o.last o.no_feeds ∙ ap (λ (x : List Text). o.front ++ x) (lines-last o.last o.no_feed o.some) ∙ sym o.is
+
+    going : (f n : Option (List ℕ)) → Consumes f n (fed ls ++ held) → AllByRecursion HasNoFeed ls → Begins f ls
+    going None n c none = tt
+    going (Some xs) None c none = absurd c
+    going (Some xs) (Some ys) c none = (lines (held ++ ys), ap lines (c ∙ append_assoc (fed ls) held ys) ∙ lines-fed_all ls (held ++ ys) none)
+
+    over : (f n : Option (List ℕ)) (o : Over first now held ended ls) → IsAtEnd n → Consumes f n (fed o.front ++ o.last) → Begins f ls
+    over None n o end c = tt
+    over (Some xs) None o end c = absurd c
+    over (Some xs) (Some ys) o end c = ([], ap lines (c ∙ ap (λ (x : List ℕ). (fed o.front ++ o.last) ++ x) end ∙ append_nothing (fed o.front ++ o.last)) ∙ whole o ∙ sym (append_nothing ls))
 
 module _ (first now then : Option (List ℕ)) (held next bytes : List ℕ) (ended over : Bool) (ls : List Text)
     (consumed : Consumes now then bytes) (at_end : over ≡ true → (ended ≡ true) ⊎ IsAtEnd then) (quiet : ended ≡ true → (bytes ≡ []) × (then ≡ now) × (over ≡ true)) where
@@ -95,6 +127,7 @@ module _ (first now then : Option (List ℕ)) (held next bytes : List ℕ) (ende
       consumed = together (fed ls) [] g.taken whole;
       are = complete-fed ls next none g.no_feeds;
       short = rw (unfinished-fed ls next none) short;
+      told = (breaks_behind first now held ended ls p).told;
     }
     | inr o ↦ absurd (let (nothing, same, still) = quiet o.ended_here in cc)
   ]

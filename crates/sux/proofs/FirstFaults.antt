@@ -14,7 +14,7 @@ use Rattle.sx_spec.specs.Keys.{Reason, too_long, KeyFault, refusal, fault_at, ke
 use Rattle.sx_spec.specs.Messages.{long_query_text, many_queries_text}
 use Rattle.sx_spec.specs.Outcomes.{QueryFault, query_refusal, first_query_fault, served, max_queries}
 
-enumerate_from-append : {X : Type 0} (n : ℕ) (xs ys : List X) → enumerate_from n (xs ++ ys) ≡ enumerate_from n xs ++ enumerate_from (n + length xs) ys
+pub enumerate_from-append : {X : Type 0} (n : ℕ) (xs ys : List X) → enumerate_from n (xs ++ ys) ≡ enumerate_from n xs ++ enumerate_from (n + length xs) ys
 enumerate_from-append n [] ys = let e : n + 0 ≡ n = omega arith in rw e refl
 enumerate_from-append n (x ∷ xs) ys =
     let e : n + 1 + length xs ≡ n + suc (length xs) = omega arith in
@@ -83,7 +83,7 @@ query_fine limits n line short few =
     let many : nat_lt max_queries n ≡ false = le-ltb max_queries n few in
     rw (long, many) refl
 
-queries_fine : (limits : Limits) (n : ℕ) (lines : List Text) → AllByRecursion (λ line. length line ≤ limits.max_line) lines → n + length lines ≤ max_queries
+pub queries_fine : (limits : Limits) (n : ℕ) (lines : List Text) → AllByRecursion (λ line. length line ≤ limits.max_line) lines → n + length lines ≤ max_queries
     → filter_map (query_refusal limits) (enumerate_from (n + 1) lines) ≡ []
 queries_fine limits n [] short few = refl
 queries_fine limits n (x ∷ lines) short few =

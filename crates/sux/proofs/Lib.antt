@@ -6,4 +6,5 @@ pub mod FedLines
 pub mod Advances
 pub mod Endings
 pub mod Builds
+pub mod Queries
 pub mod Shelves

@@ -4,3 +4,4 @@ pub mod KeyLines
 pub mod Writing
 pub mod Telling
 pub mod Progress
+pub mod Served

@@ -35,12 +35,25 @@ pub record ReadsAll (old new : Option (List ℕ)) (ls : List Text) : Type 0 wher
   pub are : lines taken ≡ ls
   pub end : IsAtEnd new
 
+-- all that was there begins with these lines, where it is told
+abbrev pub Begins : Option (List ℕ) → List Text → Type 0
+Begins old ls = IfSome old (λ bytes. (more : List Text) × (lines bytes ≡ ls ++ more))
+
+-- what was taken begins with these lines
+pub record BreaksBehind (old new : Option (List ℕ)) (ls : List Text) : Type 0 where
+  pub taken : List ℕ
+  pub consumed : Consumes old new taken
+  pub more : List Text
+  pub are : lines taken ≡ ls ++ more
+  pub told : Begins old ls
+
 -- input failed behind these lines, in the midst of a line of at most so many bytes
 pub record FailsBehind (old new : Option (List ℕ)) (max : ℕ) (ls : List Text) : Type 0 where
   pub taken : List ℕ
   pub consumed : Consumes old new taken
   pub are : complete_lines taken ≡ ls
   pub short : length (unfinished_line taken) ≤ max
+  pub told : Begins old ls
 
 -- behind these lines comes one of which something is known, in what was taken and in all that was there
 pub record StopsAt (old new : Option (List ℕ)) (ls : List Text) (IsLine : Text → Type 0) : Type 0 where
