@@ -1,0 +1,6 @@
+pub mod LineBits
+pub mod LineBytes
+pub mod PackedBits
+pub mod Windows
+pub mod ViewBits
+pub mod Pieces

@@ -1,0 +1,12 @@
+//! Bit strings that borrow the bytes of a line, and lists of keys in strictly rising order.
+#![tactic(auto)]
+
+mod fault;
+
+mod packing;
+mod view;
+
+pub use fault::KeyFault;
+
+pub use sx_spec::Limits;
+pub use view::BitView;

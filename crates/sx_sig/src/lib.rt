@@ -1,0 +1,4 @@
+//! Signatures of bit strings, and where they fall.
+#![tactic(auto)]
+
+pub use sx_spec::{Edge as Places, Method, Signature};
