@@ -3,4 +3,5 @@ pub mod LineBytes
 pub mod PackedBits
 pub mod Windows
 pub mod ViewBits
+pub mod Faultless
 pub mod Pieces

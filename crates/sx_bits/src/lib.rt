@@ -2,11 +2,12 @@
 #![tactic(auto)]
 
 mod fault;
-
+mod keys;
+mod line;
 mod packing;
 mod view;
 
 pub use fault::KeyFault;
-
+pub use keys::KeyList;
 pub use sx_spec::Limits;
 pub use view::BitView;

@@ -1,0 +1,108 @@
+-- Key lists and what is put to their end.
+use Rattle.std.proofs.Common.{◌≡◌, ℕ, zero, suc, ◌+◌, ◌-◌, ◌^◌, ◌<◌, ◌≤◌, List, [], ◌∷◌, ◌++◌, length, take, get_or, refl, sym, ap, subst, ◌∙◌, arith, inl, inr, Option, Some, None, Bool, true}
+use Rattle.std.specs.Prelude.{slice_get, filter_map, option_map, ◌⊎◌, if◌then◌else◌}
+use Rattle.std.specs.List.{AllByRecursion, enumerate_from, cons_option}
+use Rattle.std.proofs.lemmas.List.{take-append-le}
+use Rattle.std.proofs.lemmas.List.Sums.{sum_by_push}
+use Rattle.sx_spec.specs.declared.Limits.{Limits}
+use Rattle.sx_spec.specs.Keys.{refusal, fault_at, total_bytes, AreKeys, IsKeyFile, KeyFault}
+use Rattle.sx_spec.specs.Laws.{AreBytes}
+use Rattle.sx_spec.proofs.KeyFiles.{faultless_lines_are_keys}
+use Rattle.sx_bits.specs.KeyLists.{Keys, IsWithinStandard, IsKeyList}
+
+-- ---- lists of which nothing is kept
+
+none_front : {Y : Type 0} (o : Option Y) (ys : List Y) → cons_option o ys ≡ [] → (o ≡ None) × (ys ≡ [])
+none_front None ys e = (refl, e)
+none_front (Some y) ys e = absurd cc
+
+none_kept : {X Y : Type 0} (h : ℕ × X → Option Y) (a : ℕ) (xs : List X) → filter_map h (enumerate_from a xs) ≡ [] → (i : ℕ) (x : X) → slice_get xs i ≡ Some x → h (a + i, x) ≡ None
+none_kept h a [] none i x at = absurd cc
+none_kept h a (y ∷ xs) none zero x at =
+    let same : y ≡ x = cc in
+    let e : a + 0 ≡ a = omega arith in
+    rw (e, ← same) (none_front (h (a, y)) (filter_map h (enumerate_from (a + 1) xs)) none).0
+none_kept h a (y ∷ xs) none (suc i) x at =
+    let e : a + suc i ≡ (a + 1) + i = omega arith in
+    rw e (none_kept h (a + 1) xs (none_front (h (a, y)) (filter_map h (enumerate_from (a + 1) xs)) none).1 i x at)
+
+kept_none : {X Y : Type 0} (h : ℕ × X → Option Y) (a : ℕ) (xs : List X) → ((i : ℕ) (x : X) → slice_get xs i ≡ Some x → h (a + i, x) ≡ None) → filter_map h (enumerate_from a xs) ≡ []
+kept_none h a [] each = refl
+kept_none h a (y ∷ xs) each =
+    let e : a + 0 ≡ a = omega arith in
+    let here : h (a, y) ≡ None = rw e at (each 0 y refl) in
+    let rest = kept_none h (a + 1) xs (λ i x at. let f : a + suc i ≡ (a + 1) + i = omega arith in rw f at (each (suc i) x at)) in
+    ap (λ o. cons_option o (filter_map h (enumerate_from (a + 1) xs))) here ∙ rest
+
+-- ---- one more line
+
+-- an element of a list with one more is an element of it, or the one more
+in_push : {X : Type 0} (xs : List X) (y : X) (i : ℕ) (x : X) → slice_get (xs ++ y ∷ []) i ≡ Some x
+    → ((i < length xs) × (slice_get xs i ≡ Some x)) ⊎ ((i ≡ length xs) × (y ≡ x))
+in_push [] y zero x at = inr (refl, cc)
+in_push [] y (suc i) x at = absurd cc
+in_push (z ∷ xs) y zero x at = inl (omega arith, at)
+in_push (z ∷ xs) y (suc i) x at =
+    elim (in_push xs y i x at) [
+      | inl (lt, there) ↦ inl (omega arith, there)
+      | inr (last, same) ↦ inr (ap suc last, same)
+    ]
+
+take_whole : {X : Type 0} (xs ys : List X) → take (length xs) (xs ++ ys) ≡ xs
+take_whole [] ys = refl
+take_whole (x ∷ xs) ys = ap (λ zs. x ∷ zs) (take_whole xs ys)
+
+module _ (limits : Limits) (lines : List (List ℕ)) (line : List ℕ) where
+  faults_before : (i : ℕ) (x : List ℕ) → i ≤ length lines → fault_at limits (lines ++ line ∷ []) (1 + i, x) ≡ fault_at limits lines (1 + i, x)
+  faults_before i x le =
+      let e : (1 + i) - 1 ≡ i = omega arith in
+      let same : take ((1 + i) - 1) (lines ++ line ∷ []) ≡ take ((1 + i) - 1) lines = take-append-le ((1 + i) - 1) lines (line ∷ []) (omega arith) in
+      ap (λ keys. option_map (λ r. record { line = 1 + i; reason = r }) (refusal limits keys x)) same
+
+  pub faultless_push : AreKeys limits lines → refusal limits lines line ≡ None → AreKeys limits (lines ++ line ∷ [])
+  faultless_push keys free =
+      kept_none (fault_at limits (lines ++ line ∷ [])) 1 (lines ++ line ∷ []) (λ i x at.
+        elim (in_push lines line i x at) [
+          | inl (lt, there) ↦ faults_before i x (omega arith) ∙ none_kept (fault_at limits lines) 1 lines keys i x there
+          | inr (last, same) ↦
+            let e : (1 + i) - 1 ≡ length lines = omega arith in
+            let whole : take ((1 + i) - 1) (lines ++ line ∷ []) ≡ lines = ap (λ n. take n (lines ++ line ∷ [])) e ∙ take_whole lines (line ∷ []) in
+            ap (option_map (λ r. record { line = 1 + i; reason = r })) (ap (λ ks. refusal limits ks x) whole ∙ ap (refusal limits lines) (sym same) ∙ free)
+        ])
+
+bytes_push : (lines : List (List ℕ)) (line : List ℕ) → AreBytes lines → AllByRecursion (λ b. b < 256) line → AreBytes (lines ++ line ∷ [])
+bytes_push [] line all one = (one, tt)
+bytes_push (x ∷ lines) line all one = (all.0, bytes_push lines line all.1 one)
+
+pub all_bytes : (line : List ℕ) → ((i : ℕ) → get_or line i 0 < 256) → AllByRecursion (λ b. b < 256) line
+all_bytes [] each = tt
+all_bytes (b ∷ line) each = (each 0, all_bytes line (λ i. each (suc i)))
+
+-- a key list with one more line that isn't refused
+pub key_list_push : (limits : Limits) (lines : List (List ℕ)) (line : List ℕ) → IsKeyList (record { limits = limits; lines = lines })
+    → refusal limits lines line ≡ None → ((i : ℕ) → get_or line i 0 < 256) → IsKeyList (record { limits = limits; lines = lines ++ line ∷ [] })
+key_list_push limits lines line valid free small = record {
+  limits = valid.limits;
+  faultless = faultless_push limits lines line valid.faultless free;
+  bytes = bytes_push lines line valid.bytes (all_bytes line small);
+}
+
+-- and its bytes
+pub total_push : (lines : List (List ℕ)) (line : List ℕ) → total_bytes (lines ++ line ∷ []) ≡ total_bytes lines + length line
+total_push lines line = sum_by_push (λ (key : List ℕ). length key) lines line
+
+pub key_file : (keys : Keys) → IsKeyList keys → IsKeyFile keys.limits keys.lines
+key_file keys valid = faultless_lines_are_keys keys.limits keys.lines valid.faultless
+
+-- a key list after a `push` of the vector
+pub pushed_list : (limits : Limits) (lines seen : List (List ℕ)) (line copy : List ℕ) (now : List (List ℕ)) (bytes : ℕ) (done : Bool)
+    → IsKeyList (record { limits = limits; lines = lines }) × (bytes ≡ total_bytes lines)
+    → seen ≡ lines → refusal limits seen line ≡ None → done ≡ true → copy ≡ line → now ≡ (if done then lines ++ copy ∷ [] else lines)
+    → ((i : ℕ) → get_or line i 0 < 256)
+    → IsKeyList (record { limits = limits; lines = now }) × (bytes + length line ≡ total_bytes now)
+pushed_list limits lines seen line copy now bytes done (valid, all) whole free ok same after small =
+    let free_here : refusal limits lines line ≡ None = subst (λ ls. refusal limits ls line ≡ None) whole free in
+    let now_is : now ≡ lines ++ line ∷ [] =
+      after ∙ ap (λ (b : Bool). if b then lines ++ copy ∷ [] else lines) ok ∙ ap (λ l. lines ++ l ∷ []) same in
+    let P : List (List ℕ) → Type 0 = λ ls. IsKeyList (record { limits = limits; lines = ls }) × (bytes + length line ≡ total_bytes ls) in
+    subst P (sym now_is) (key_list_push limits lines line valid free_here small, ap (λ n. n + length line) all ∙ sym (total_push lines line))
