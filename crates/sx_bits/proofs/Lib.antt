@@ -1,3 +1,4 @@
+pub mod NumberBits
 pub mod LineBits
 pub mod LineBytes
 pub mod PackedBits

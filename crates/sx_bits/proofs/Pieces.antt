@@ -11,32 +11,10 @@ use Rattle.std.proofs.Math.Pow.{pow_pos}
 use Rattle.sx_spec_strings.specs.Bits.{Bits, key_bits, packed_bytes}
 use Rattle.sx_bits.specs.declared.view.BitView.{BitView}
 use Rattle.sx_bits.specs.Views.{bits_of, window_byte}
+use Rattle.sx_bits.proofs.NumberBits.{cleared, cleared_le, cleared_none, bit_cleared, bit_kept}
 use Rattle.sx_bits.proofs.PackedBits.{packed_bytes_are}
 use Rattle.sx_bits.proofs.ViewBits.{length-bits_of}
 use Rattle.sx_bits.proofs.Windows.{bit_in_window, window_small}
-
--- ---- numbers whose low bits are cleared
-
-abbrev cleared : ℕ → ℕ → ℕ
-cleared n u = n / 2 ^ u * 2 ^ u
-
-cleared_le : (n u : ℕ) → cleared n u ≤ n
-cleared_le n u = let e = shr_split n u in omega arith
-
-cleared_none : (n : ℕ) → cleared n 0 ≡ n
-cleared_none n = rw (pow-zero 2) (omega arith)
-
-bit_cleared : (n u i : ℕ) → i < u → bit_at (cleared n u) i ≡ 0
-bit_cleared n u i lt =
-    let e : cleared n u ≡ n / 2 ^ u * 2 ^ u + 0 = omega arith in
-    ap (λ m. bit_at m i) e ∙ bit_at_cat_low (n / 2 ^ u) u 0 i lt ∙ bit_at-zero i
-
-bit_kept : (n u i : ℕ) → u ≤ i → bit_at (cleared n u) i ≡ bit_at n i
-bit_kept n u i ge =
-    let e : cleared n u ≡ n / 2 ^ u * 2 ^ u + 0 = omega arith in
-    let f : u + (i - u) ≡ i = omega arith in
-    ap (λ m. bit_at m i) e ∙ bit_at_cat_high (n / 2 ^ u) u 0 i (pow_pos u) ge
-    ∙ ap (λ m. m % 2) (shr-shr n u (i - u)) ∙ ap (λ m. n / 2 ^ m % 2) f
 
 -- ---- the bits of a piece
 

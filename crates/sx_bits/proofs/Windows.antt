@@ -8,7 +8,8 @@ use Rattle.std.proofs.lemmas.Nat.{mod_below}
 use Rattle.std.proofs.lemmas.Nat.Bits.{bit_at_cat_low, bit_at_cat_high}
 use Rattle.sx_spec_strings.specs.Bits.{Bits, key_bits, packed_byte}
 use Rattle.sx_bits.specs.Views.{shifted_byte, window_byte}
-use Rattle.sx_bits.proofs.LineBits.{bit_of_line, bit_of_shifted}
+use Rattle.sx_bits.proofs.LineBits.{bit_of_line}
+use Rattle.sx_bits.proofs.NumberBits.{bit_of_shifted}
 use Rattle.sx_bits.proofs.PackedBits.{packed_byte_is}
 
 -- bit j of byte k, from bit `start` on
