@@ -1,0 +1,4 @@
+pub mod Numbers
+pub mod Between
+pub mod Ends
+pub mod Visits

@@ -1,0 +1,76 @@
+//! Peeling of hypergraphs with three vertices an edge: an edge with a vertex of its own is taken away, until none is left
+//! or the edges that are left form a core.
+#![tactic(auto)]
+
+ghost use Rattle.std.specs.Prelude.{◌≡◌, ◌+◌, ◌*◌, ◌<◌, ◌^◌, All, IfOk, length};
+ghost use Rattle.sx_peel.specs.Peeling.{IsEdgeWithin, IsPeeled};
+
+mod degrees;
+mod rounds;
+
+use rounds::Peeling;
+use std::alloc::{AllocError, Global};
+pub use sx_spec::Edge;
+
+/// An edge that was taken away.
+#[derive(Clone, Copy, PartialEq, Eq, Debug)]
+pub struct Taken {
+    /// The number of the edge in the list of all edges.
+    pub edge: u32,
+    /// The place in the edge of the vertex that it was taken by: 0, 1 or 2 for `a`, `b` or `c`.
+    pub slot: u8,
+}
+
+/// What peeling comes to.
+#[derive(Debug, Drop)]
+pub enum Peeled {
+    /// Every edge once; the vertex in the slot of each lies on no later one.
+    Order(Vec<Taken>),
+    /// The numbers of edges, rising and at least one, among which each of their vertices lies on two or more.
+    Core(Vec<u32>),
+}
+
+/// Peels the edges, whose vertices are below `vertices`. A core comes exactly where no order takes every edge.
+///
+/// # Errors
+///
+/// Want of memory.
+pub fn peel(alloc: Global, vertices: u32, edges: &[Edge]) -> Result<Peeled, AllocError>
+    requires within { All (IsEdgeWithin vertices) edges.now }
+    requires few { 3 * length edges.now < 2 ^ 32 }
+    ensures { IfOk result (λ p. IsPeeled edges.now p) }
+{
+    let mut peeling = Peeling::new(alloc, vertices, edges)?;
+    while peeling.is_unfinished() {
+        if !peeling.round(edges)? {
+            return Ok(Peeled::Core(peeling.into_left()));
+        }
+    }
+    Ok(Peeled::Order(peeling.into_order()))
+}
+
+#[cfg(test)]
+mod tests {
+    use super::*;
+    use std::test::Fail;
+
+    #[test]
+    fn equal_edges_are_a_core(rt: HostRuntime) -> Result<(), Fail> {
+        let edge = Edge { a: 0, b: 2, c: 4 };
+        match peel(rt.alloc(), 6, &[edge, edge])? {
+            Peeled::Core(numbers) => assert_eq!(rt; numbers.as_slice(), [0, 1].as_slice()),
+            Peeled::Order(_) => assert!(rt; false, "an order"),
+        }
+        Ok(())
+    }
+
+    #[test]
+    fn edges_apart_are_taken(rt: HostRuntime) -> Result<(), Fail> {
+        let edges = [Edge { a: 0, b: 2, c: 4 }, Edge { a: 1, b: 3, c: 5 }];
+        match peel(rt.alloc(), 6, &edges)? {
+            Peeled::Order(taken) => assert_eq!(rt; taken.len(), 2),
+            Peeled::Core(_) => assert!(rt; false, "a core"),
+        }
+        Ok(())
+    }
+}
