@@ -1,0 +1,92 @@
+//! Static functions: a value for each signature of a list, read as the xor of three cells.
+#![tactic(auto)]
+
+ghost use Rattle.std.specs.Prelude.{◌≡◌, ◌*◌, ◌<◌, ◌≤◌, IfOk, length};
+ghost use Rattle.sx_spec.specs.declared.Method.TheVariants.{Mwhc};
+ghost use Rattle.sx_static.specs.Answer.{IsAnswer, entries_of};
+
+mod cells;
+mod edges;
+mod twins;
+
+use std::alloc::{AllocError, Global};
+
+use cells::cells_of;
+use edges::edges_of;
+use sx_peel::{Edge, Peeled, peel};
+use sx_sig::segment;
+use twins::twins;
+
+pub use sx_spec::{Method, Signature};
+
+/// A function as it is built.
+#[derive(Debug, Drop)]
+pub struct FuncBuf {
+    /// How many bits a value has.
+    pub width: u32,
+    /// How many signatures it was built from.
+    pub pairs: u32,
+    /// The chunk table: the first cell of each chunk, with its try from bit 58 on, and the number of all cells.
+    pub table: Vec<u64>,
+    /// The cells of all chunks in a row.
+    pub cells: Vec<u64>,
+}
+
+/// Why a try doesn't work for a chunk, by the numbers of pairs.
+#[derive(Debug, Drop)]
+pub enum Witness {
+    /// The edges of these pairs are a core.
+    Core(Vec<u32>),
+    /// The equations of these pairs have a sum that no cells meet.
+    Sum(Vec<u32>),
+}
+
+/// What a build comes to.
+#[derive(Debug, Drop)]
+pub enum Built {
+    /// The function.
+    Done(FuncBuf),
+    /// Two signatures are equal: `second` is the least number that has an equal one before it, and `first` the least such.
+    Twins { first: u32, second: u32 },
+    /// The first chunk that no try works for, with a witness for each try.
+    Stuck { chunk: u32, witnesses: Vec<Witness> },
+}
+
+/// Builds the function that answers each signature with its value.
+///
+/// # Errors
+///
+/// Want of memory.
+pub fn build(alloc: Global, sigs: &[Signature], values: &[u64], width: u32, method: Method) -> Result<Built, AllocError>
+    requires values { length values.now ≡ length sigs.now }
+    requires few { length sigs.now ≤ 1024 }
+    requires width { width ≡ 64 }
+    requires method { method ≡ Mwhc }
+    ensures { IfOk result (λ b. IsAnswer method 1 width (entries_of sigs.now values.now) b) }
+{
+    if let Some((first, second)) = twins(sigs) {
+        return Ok(Built::Twins { first, second });
+    }
+    let pairs = sigs.len() as u32;
+    let s = segment(method, pairs);
+    let edges = edges_of(alloc, sigs, s)?;
+    match peel(alloc, 3 * s, &edges)? {
+        Peeled::Order(order) => {
+            let cells = cells_of(alloc, 3 * s, &edges, values, &order)?;
+            let table = vec![in alloc; 0, 3 * u64::from(s)]?;
+            Ok(Built::Done(FuncBuf {
+                width,
+                pairs,
+                table,
+                cells,
+            }))
+        }
+        Peeled::Core(numbers) => {
+            let witnesses = vec![in alloc; Witness::Core(numbers)]?;
+            Ok(Built::Stuck {
+                chunk: 0,
+                witnesses,
+            })
+        }
+    }
+}
