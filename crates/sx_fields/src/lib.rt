@@ -1,0 +1,4 @@
+//! Numbers of a fixed width in lists of 64-bit words.
+#![tactic(auto)]
+
+pub mod bank;
