@@ -2,3 +2,6 @@
 #![tactic(auto)]
 
 pub mod bank;
+pub mod fields;
+pub mod packed;
+mod place;
