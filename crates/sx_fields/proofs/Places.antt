@@ -1,13 +1,14 @@
 -- Where fields lie in the words of a bank.
-use Rattle.std.proofs.Common.{◌≡◌, ℕ, zero, suc, ◌+◌, ◌-◌, ◌*◌, ◌/◌, ◌%◌, ◌^◌, ◌<◌, ◌≤◌, List, All, length, get_or, drop, refl, sym, ap, subst, ◌∙◌, arith, lit<}
+use Rattle.std.proofs.Common.{◌≡◌, ℕ, zero, suc, ◌+◌, ◌-◌, ◌*◌, ◌/◌, ◌%◌, ◌^◌, ◌<◌, ◌≤◌, List, [], ◌∷◌, All, length, get_or, set, replicate, drop, refl, sym, ap, subst, ◌∙◌, arith, lit<}
 use Rattle.std.proofs.lemmas.List.{get_or-drop}
 use Rattle.std.proofs.lemmas.List.Elements.{recursion_from_All, All-drop, All-from_get_or}
 use Rattle.std.proofs.lemmas.Nat.{row_fits, mul-le, pow_pos, mod_below}
-use Rattle.std.proofs.Math.Nat.{pow-zero, mod-one}
+use Rattle.std.proofs.Math.Nat.{pow-zero, mod-one, zero-mod, zero-div}
 use Rattle.sx_spec.specs.Fields.{words_for, fields, words_number}
-use Rattle.sx_spec.proofs.Digits.{length-lowest_digits}
-use Rattle.sx_fields.proofs.WordNumbers.{AreWords, digit_at}
-use Rattle.sx_fields.proofs.WordFields.{field_inside, field_across}
+use Rattle.sx_spec.proofs.Digits.{length-lowest_digits, power_of_power}
+use Rattle.sx_spec_strings.specs.Numbers.{lowest_digits}
+use Rattle.sx_fields.proofs.WordNumbers.{AreWords, digit_at, digit_set}
+use Rattle.sx_fields.proofs.WordFields.{field_number, number_inside, number_across}
 
 -- ---- where
 
@@ -53,7 +54,7 @@ module _ (bank : List ℕ) (first width len i : ℕ) (small : All (λ w. w < 2 ^
   pub bank_inside : i * width % 64 + width ≤ 64 → get_or bank (first + i * width / 64) 0 / 2 ^ (i * width % 64) % 2 ^ width ≡ get_or (fields width len (drop first bank)) i 0
   bank_inside fits =
       ap (λ w. w / 2 ^ (i * width % 64) % 2 ^ width) (sym (get_or-drop first bank (i * width / 64) 0))
-      ∙ sym (field_inside (drop first bank) width len i (i * width / 64) (i * width % 64) words_from within (omega arith) fits)
+      ∙ sym (field_number (drop first bank) width len i within ∙ number_inside (drop first bank) width (i * width / 64) (i * width % 64) (i * width) words_from (omega arith) fits)
 
   pub bank_across : width ≤ 64 → (get_or bank (first + i * width / 64) 0 / 2 ^ (i * width % 64) + get_or bank (first + i * width / 64 + 1) 0 * 2 ^ (64 - i * width % 64)) % 2 ^ width ≡ get_or (fields width len (drop first bank)) i 0
   bank_across narrow =
@@ -61,4 +62,36 @@ module _ (bank : List ℕ) (first width len i : ℕ) (small : All (λ w. w < 2 ^
       let next : get_or bank (first + k + 1) 0 ≡ get_or (drop first bank) (suc k) 0 =
       (let e : first + k + 1 ≡ first + suc k = omega arith in ap (λ n. get_or bank n 0) e) ∙ sym (get_or-drop first bank (suc k) 0) in
       (λ j. (sym (get_or-drop first bank k 0) j / 2 ^ (i * width % 64) + next j * 2 ^ (64 - i * width % 64)) % 2 ^ width)
-      ∙ sym (field_across (drop first bank) width len i k (i * width % 64) words_from within (omega arith) (64 - i * width % 64) (omega arith) narrow)
+      ∙ sym (field_number (drop first bank) width len i within ∙ number_across (drop first bank) width k (i * width % 64) (i * width) words_from (omega arith) (64 - i * width % 64) (omega arith) narrow)
+
+-- ---- changes
+
+-- a field of no bits is not there to be changed
+pub put_nothing : (x at v width : ℕ) → width ≡ 0 → v < 2 ^ width → x + x / 2 ^ at % 2 ^ width * 2 ^ at ≡ x + v * 2 ^ at
+put_nothing x at v width none fits =
+    let one : 2 ^ width ≡ 1 = ap (λ k. 2 ^ k) none ∙ pow-zero 2 in
+    let zero_bits : x / 2 ^ at % 2 ^ width ≡ 0 = ap (λ m. x / 2 ^ at % m) one ∙ mod-one (x / 2 ^ at) in
+    let v_none : v ≡ 0 = omega arith in
+    λ i. x + (zero_bits ∙ sym v_none) i * 2 ^ at
+
+-- words of which one field changes hold the same fields but for it
+pub changed_fields : (words new : List ℕ) (width len i v : ℕ) → i < len → v < 2 ^ width → words_number words < 2 ^ (len * width) → words_number new + words_number words / 2 ^ (i * width) % 2 ^ width * 2 ^ (i * width) ≡ words_number words + v * 2 ^ (i * width) → (fields width len new ≡ set (fields width len words) i v) × (words_number new < 2 ^ (len * width))
+changed_fields words new width len i v within fits below change =
+    let base = 2 ^ width in
+    let all : base ^ len ≡ 2 ^ (len * width) = power_of_power width len in
+    let each : base ^ i ≡ 2 ^ (i * width) = power_of_power width i in
+    let x = words_number words in
+    let y = words_number new in
+    let change' : y + x / base ^ i % base * base ^ i ≡ x + v * base ^ i = subst (λ m. y + x / m % base * m ≡ x + v * m) (sym each) change in
+    let (digits, small) = digit_set base (pow_pos width) len x y i v fits within (subst (λ m. x < m) (sym all) below) change' in
+    (digits, subst (λ m. y < m) all small)
+
+-- no words but zeros
+pub zeros_number : (n : ℕ) → words_number (replicate n 0) ≡ 0
+zeros_number zero = refl
+zeros_number (suc n) = let rest = zeros_number n in omega arith
+
+pub zero_digits : (base n : ℕ) → lowest_digits base n 0 ≡ replicate n 0
+unfolding lowest_digits
+zero_digits base zero = refl
+zero_digits base (suc n) = let low = zero-mod base in let high = zero-div base in λ i. low i ∷ (ap (lowest_digits base n) high ∙ zero_digits base n) i

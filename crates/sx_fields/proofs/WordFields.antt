@@ -1,7 +1,8 @@
 -- A field inside one word or across two: how it is read, and what the words are after a change of it.
-use Rattle.std.proofs.Common.{◌≡◌, ℕ, zero, suc, ◌+◌, ◌-◌, ◌*◌, ◌/◌, ◌%◌, ◌^◌, ◌<◌, ◌≤◌, List, [], ◌∷◌, length, get_or, set, drop, refl, sym, ap, subst, ◌∙◌, arith, lit<}
+use Rattle.std.proofs.Common.{◌≡◌, ◌≢◌, ℕ, zero, suc, ◌+◌, ◌-◌, ◌*◌, ◌/◌, ◌%◌, ◌^◌, ◌<◌, ◌≤◌, List, [], ◌∷◌, length, get_or, set, drop, refl, sym, ap, subst, ◌∙◌, arith, lit<}
 use Rattle.std.specs.Prelude.{bit_xor, bit_or, bit_and}
 use Rattle.std.specs.Int.Bits.{xor_assoc, xor_self, xor_zero_r, xor_zero_l}
+use Rattle.std.proofs.lemmas.List.{length-set, get_or-set_other}
 use Rattle.std.proofs.lemmas.Nat.{pow_pos, div-add-mod', div-mul-add, mod-mul-add, shr_below, shl_below, or_comm, or_shifted, xor_lt, xor_block, xor_mod, xor_shr, and_mask, shl_whole, mod_below}
 use Rattle.std.proofs.lemmas.Nat.Bits.{ones_shr}
 use Rattle.std.proofs.Math.Nat.{add-mul-mod_self_left, add-mul-div_left, mod-eq_of_lt, mod-lt, mul_comm, mul_assoc, mul-add, add-mul}
@@ -9,7 +10,7 @@ use Rattle.std.proofs.Math.Arith.{mod-mul}
 use Rattle.std.proofs.Math.Pow.{pow_mono}
 use Rattle.sx_spec.specs.Fields.{words_number, fields}
 use Rattle.sx_spec.proofs.Digits.{power_of_power}
-use Rattle.sx_fields.proofs.WordNumbers.{AreWords, power_split, digit_at, number_front, number_from_bit}
+use Rattle.sx_fields.proofs.WordNumbers.{AreWords, power_split, digit_at, number_front, number_from_bit, number_set}
 
 -- ---- reading
 
@@ -37,25 +38,25 @@ across_of w v high s t width both narrow =
     ∙ ap (λ m. m % 2 ^ width) (add-mul-div_left w (2 ^ t * (v + 2 ^ 64 * high)) (pow_pos s) ∙ split)
     ∙ add-mul-mod_self_left (w / 2 ^ s + v * 2 ^ t) (2 ^ width) (2 ^ r * (2 ^ t * high))
 
--- field i of words, which begins at bit s of word k
-module _ (words : List ℕ) (width count i k s : ℕ) (small : AreWords words) (within : i < count) (place : 64 * k + s ≡ i * width) where
-  field_number : get_or (fields width count words) i 0 ≡ words_number (drop k words) / 2 ^ s % 2 ^ width
-  field_number =
-      digit_at (2 ^ width) (pow_pos width) count (words_number words) i within
-      ∙ ap (λ m. words_number words / m % 2 ^ width) (power_of_power width i)
-      ∙ ap (λ m. m % 2 ^ width) (number_from_bit words k s (i * width) small place)
-
-  pub field_inside : s + width ≤ 64 → get_or (fields width count words) i 0 ≡ get_or words k 0 / 2 ^ s % 2 ^ width
-  field_inside fits =
-      field_number
+-- so many bits of the number of words, which begin at bit s of word k
+module _ (words : List ℕ) (width k s at : ℕ) (small : AreWords words) (place : 64 * k + s ≡ at) where
+  pub number_inside : s + width ≤ 64 → words_number words / 2 ^ at % 2 ^ width ≡ get_or words k 0 / 2 ^ s % 2 ^ width
+  number_inside fits =
+      ap (λ m. m % 2 ^ width) (number_from_bit words k s at small place)
       ∙ ap (λ m. m / 2 ^ s % 2 ^ width) (number_front words k)
       ∙ inside_of (get_or words k 0) (words_number (drop (suc k) words)) s width fits
 
-  pub field_across : (t : ℕ) → s + t ≡ 64 → width ≤ 64 → get_or (fields width count words) i 0 ≡ (get_or words k 0 / 2 ^ s + get_or words (suc k) 0 * 2 ^ t) % 2 ^ width
-  field_across t both narrow =
-      field_number
+  pub number_across : (t : ℕ) → s + t ≡ 64 → width ≤ 64 → words_number words / 2 ^ at % 2 ^ width ≡ (get_or words k 0 / 2 ^ s + get_or words (suc k) 0 * 2 ^ t) % 2 ^ width
+  number_across t both narrow =
+      ap (λ m. m % 2 ^ width) (number_from_bit words k s at small place)
       ∙ ap (λ m. m / 2 ^ s % 2 ^ width) (number_front words k ∙ ap (λ m. get_or words k 0 + 2 ^ 64 * m) (number_front words (suc k)))
       ∙ across_of (get_or words k 0) (get_or words (suc k) 0) (words_number (drop (suc (suc k)) words)) s t width both narrow
+
+-- field i of words
+pub field_number : (words : List ℕ) (width count i : ℕ) → i < count → get_or (fields width count words) i 0 ≡ words_number words / 2 ^ (i * width) % 2 ^ width
+field_number words width count i within =
+    digit_at (2 ^ width) (pow_pos width) count (words_number words) i within
+    ∙ ap (λ m. words_number words / m % 2 ^ width) (power_of_power width i)
 
 -- the mask of so many bits
 mask_is : (width : ℕ) → width ≤ 64 → (2 ^ 64 - 1) / 2 ^ (64 - width) ≡ 2 ^ width - 1
@@ -172,3 +173,49 @@ across_changed w u v s t width small fits both over narrow =
     let f_split : f * 2 ^ s ≡ u % 2 ^ r * 2 ^ 64 + a * 2 ^ s =
     ap (λ m. m * 2 ^ s) joined ∙ add-mul (u % 2 ^ r * 2 ^ t) a (2 ^ s) ∙ ap (λ m. m + a * 2 ^ s) (mul_assoc (u % 2 ^ r) (2 ^ t) (2 ^ s) ∙ ap (λ m. u % 2 ^ r * m) (sym power')) in
     omega arith
+
+-- the words with a field inside a word changed to v
+pub put_inside : (words : List ℕ) (width k s at v : ℕ) → AreWords words → k < length words → 64 * k + s ≡ at → v < 2 ^ width → s + width ≤ 64 → (let w = get_or words k 0 in let f = w / 2 ^ s % 2 ^ width in words_number (set words k (bit_xor w (bit_xor f v * 2 ^ s % 2 ^ 64))) + words_number words / 2 ^ at % 2 ^ width * 2 ^ at ≡ words_number words + v * 2 ^ at)
+put_inside words width k s at v small within place fits inside =
+    let w = get_or words k 0 in
+    let f = w / 2 ^ s % 2 ^ width in
+    let w' = bit_xor w (bit_xor f v * 2 ^ s % 2 ^ 64) in
+    let p = 2 ^ (64 * k) in
+    let is : words_number words / 2 ^ at % 2 ^ width ≡ f = number_inside words width k s at small place inside in
+    let power : 2 ^ at ≡ 2 ^ s * p = power_split s (64 * k) at (omega arith) in
+    let wordwise : w' * p + f * (2 ^ s * p) ≡ w * p + v * (2 ^ s * p) = scaled w' f w v (2 ^ s) p (inside_changed w v s width fits inside) in
+    let old : words_number words / 2 ^ at % 2 ^ width * 2 ^ at ≡ f * (2 ^ s * p) = λ i. is i * power i in
+    let new : v * 2 ^ at ≡ v * (2 ^ s * p) = ap (λ m. v * m) power in
+    let whole = number_set words k w' within in
+    omega arith
+  where
+    scaled : (a f b v q p : ℕ) → a + f * q ≡ b + v * q → a * p + f * (q * p) ≡ b * p + v * (q * p)
+    scaled a f b v q p e = let h : (a + f * q) * p ≡ (b + v * q) * p = ap (λ m. m * p) e in omega arith
+
+-- the words with a field across two words changed to v
+pub put_across : (words : List ℕ) (width k s t at v : ℕ) → AreWords words → suc k < length words → get_or words k 0 < 2 ^ 64 → 64 * k + s ≡ at → v < 2 ^ width → s + t ≡ 64 → t ≤ width → width ≤ 64 → (let w = get_or words k 0 in let u = get_or words (suc k) 0 in let f = (w / 2 ^ s + u * 2 ^ t) % 2 ^ width in words_number (set (set words k (bit_xor w (bit_xor f v * 2 ^ s % 2 ^ 64))) (suc k) (bit_xor u (bit_xor f v / 2 ^ t))) + words_number words / 2 ^ at % 2 ^ width * 2 ^ at ≡ words_number words + v * 2 ^ at)
+put_across words width k s t at v small within low place fits both over narrow =
+    let w = get_or words k 0 in
+    let u = get_or words (suc k) 0 in
+    let f = (w / 2 ^ s + u * 2 ^ t) % 2 ^ width in
+    let w' = bit_xor w (bit_xor f v * 2 ^ s % 2 ^ 64) in
+    let u' = bit_xor u (bit_xor f v / 2 ^ t) in
+    let p = 2 ^ (64 * k) in
+    let is : words_number words / 2 ^ at % 2 ^ width ≡ f = number_across words width k s at small place t both narrow in
+    let power : 2 ^ at ≡ 2 ^ s * p = power_split s (64 * k) at (omega arith) in
+    let power' : 2 ^ (64 * suc k) ≡ 2 ^ 64 * p = power_split 64 (64 * k) (64 * suc k) (omega arith) in
+    let wordwise : (w' + 2 ^ 64 * u') * p + f * (2 ^ s * p) ≡ (w + 2 ^ 64 * u) * p + v * (2 ^ s * p) =
+    scaled (w' + 2 ^ 64 * u') f (w + 2 ^ 64 * u) v (2 ^ s) p (across_changed w u v s t width low fits both over narrow) in
+    let old : words_number words / 2 ^ at % 2 ^ width * 2 ^ at ≡ f * (2 ^ s * p) = λ i. is i * power i in
+    let new : v * 2 ^ at ≡ v * (2 ^ s * p) = ap (λ m. v * m) power in
+    let first : words_number (set words k w') + w * p ≡ words_number words + w' * p = number_set words k w' (omega arith) in
+    let there : suc k < length (set words k w') = rw length-set within in
+    let second = number_set (set words k w') (suc k) u' there in
+    let differ : suc k ≢ k = omega arith in
+    let kept : get_or (set words k w') (suc k) 0 ≡ u = get_or-set_other words k (suc k) w' 0 differ in
+    let moved : get_or (set words k w') (suc k) 0 * 2 ^ (64 * suc k) ≡ u * (2 ^ 64 * p) = λ i. kept i * power' i in
+    let moved' : u' * 2 ^ (64 * suc k) ≡ u' * (2 ^ 64 * p) = ap (λ m. u' * m) power' in
+    omega arith
+  where
+    scaled : (a f b v q p : ℕ) → a + f * q ≡ b + v * q → a * p + f * (q * p) ≡ b * p + v * (q * p)
+    scaled a f b v q p e = let h : (a + f * q) * p ≡ (b + v * q) * p = ap (λ m. m * p) e in omega arith

@@ -4,4 +4,5 @@
 pub mod bank;
 pub mod fields;
 pub mod packed;
+pub mod packed_buf;
 mod place;

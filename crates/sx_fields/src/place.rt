@@ -1,5 +1,6 @@
 //! A field in one word, or across two.
-ghost use Rattle.std.specs.Prelude.{◌≡◌, ◌+◌, ◌-◌, ◌*◌, ◌/◌, ◌%◌, ◌<◌, ◌≤◌, ◌^◌};
+ghost use Rattle.std.specs.Prelude.{◌≡◌, ◌+◌, ◌-◌, ◌*◌, ◌/◌, ◌%◌, ◌<◌, ◌≤◌, ◌^◌, All, length};
+ghost use Rattle.sx_spec.specs.Fields.{words_number};
 
 /// The bits of a word from bit `shift` on, as many as `width`.
 #[inline]
@@ -20,4 +21,33 @@ pub(crate) fn across(low: u64, high: u64, shift: u32, width: u32) -> u64
     ensures { result ≡ (low / 2 ^ shift + high * 2 ^ (64 - shift)) % 2 ^ width }
 {
     (low >> shift | high << (64 - shift)) & u64::MAX >> (64 - width)
+}
+
+/// Makes the field of `width` bits from bit `i * width` on equal to `v`. All other bits stay.
+#[inline]
+pub(crate) fn put(words: &mut [u64], i: usize, width: u32, v: u64)
+    requires narrow { width ≤ 64 }
+    requires short { i < 2 ^ 33 }
+    requires small { All (λ w. w < 2 ^ 64) words.old }
+    requires within { i * width + width ≤ 64 * length words.old }
+    requires fits { v < 2 ^ width }
+    ensures small { All (λ w. w < 2 ^ 64) words.new }
+    ensures change { let at = i * width in
+        words_number words.new + words_number words.old / 2 ^ at % 2 ^ width * 2 ^ at ≡ words_number words.old + v * 2 ^ at }
+{
+    if width == 0 {
+        return;
+    }
+    let at = i * width as usize;
+    let word = at / 64;
+    let shift = (at % 64) as u32;
+    let low = words[word];
+    if shift + width <= 64 {
+        words[word] = low ^ (inside(low, shift, width) ^ v) << shift;
+        return;
+    }
+    let high = words[word + 1];
+    let change = across(low, high, shift, width) ^ v;
+    words[word] = low ^ change << shift;
+    words[word + 1] = high ^ change >> (64 - shift);
 }
