@@ -1,3 +1,4 @@
 pub mod WordNumbers
 pub mod WordFields
 pub mod Places
+pub mod Padding

@@ -6,3 +6,4 @@ pub mod fields;
 pub mod packed;
 pub mod packed_buf;
 mod place;
+pub mod section;
