@@ -1,13 +1,13 @@
 -- Where fields lie in the words of a bank.
-use Rattle.std.proofs.Common.{◌≡◌, ℕ, zero, suc, ◌+◌, ◌-◌, ◌*◌, ◌/◌, ◌%◌, ◌^◌, ◌<◌, ◌≤◌, List, [], ◌∷◌, All, length, get_or, set, replicate, drop, refl, sym, ap, subst, ◌∙◌, arith, lit<}
+use Rattle.std.proofs.Common.{◌≡◌, ℕ, zero, suc, ◌+◌, ◌-◌, ◌*◌, ◌/◌, ◌%◌, ◌^◌, ◌<◌, ◌≤◌, List, [], ◌∷◌, All, length, get_or, set, replicate, take, drop, refl, sym, ap, subst, ◌∙◌, arith, lit<}
 use Rattle.std.proofs.lemmas.List.{get_or-drop}
 use Rattle.std.proofs.lemmas.List.Elements.{recursion_from_All, All-drop, All-from_get_or}
 use Rattle.std.proofs.lemmas.Nat.{row_fits, mul-le, pow_pos, mod_below}
-use Rattle.std.proofs.Math.Nat.{pow-zero, mod-one, zero-mod, zero-div}
+use Rattle.std.proofs.Math.Nat.{pow-zero, pow-succ', mod-one, zero-mod, zero-div, mul_assoc, add-mul-mod_self_left, add-mul-div_left}
 use Rattle.sx_spec.specs.Fields.{words_for, fields, words_number}
 use Rattle.sx_spec.proofs.Digits.{length-lowest_digits, power_of_power}
 use Rattle.sx_spec_strings.specs.Numbers.{lowest_digits}
-use Rattle.sx_fields.proofs.WordNumbers.{AreWords, digit_at, digit_set}
+use Rattle.sx_fields.proofs.WordNumbers.{AreWords, power_split, digit_at, digit_set}
 use Rattle.sx_fields.proofs.WordFields.{field_number, number_inside, number_across}
 
 -- ---- where
@@ -95,3 +95,37 @@ pub zero_digits : (base n : ℕ) → lowest_digits base n 0 ≡ replicate n 0
 unfolding lowest_digits
 zero_digits base zero = refl
 zero_digits base (suc n) = let low = zero-mod base in let high = zero-div base in λ i. low i ∷ (ap (lowest_digits base n) high ∙ zero_digits base n) i
+
+-- ---- more words than the fields need
+
+-- the words before k, and those from k on above them
+pub number_split : (words : List ℕ) (k : ℕ) → k ≤ length words → words_number words ≡ words_number (take k words) + 2 ^ (64 * k) * words_number (drop k words)
+number_split words zero within = let one : 2 ^ (64 * 0) ≡ 1 = refl in rw one (omega arith)
+number_split [] (suc k) within = absurd (omega arith)
+number_split (w ∷ words) (suc k) within =
+    let rest = number_split words k (omega arith) in
+    let power : 2 ^ (64 * suc k) ≡ 2 ^ 64 * 2 ^ (64 * k) = power_split 64 (64 * k) (64 * suc k) (omega arith) in
+    let above : 2 ^ (64 * suc k) * words_number (drop k words) ≡ 2 ^ 64 * (2 ^ (64 * k) * words_number (drop k words)) =
+    ap (λ m. m * words_number (drop k words)) power ∙ mul_assoc (2 ^ 64) (2 ^ (64 * k)) (words_number (drop k words)) in
+    omega arith
+
+-- the digits of a number don't tell what stands above them
+low_digits : (base n x y : ℕ) → 0 < base → lowest_digits base n (x + base ^ n * y) ≡ lowest_digits base n x
+unfolding lowest_digits
+low_digits base zero x y some = refl
+low_digits base (suc n) x y some =
+    let whole : base ^ suc n * y ≡ base * (base ^ n * y) = ap (λ m. m * y) (pow-succ' base n) ∙ mul_assoc base (base ^ n) y in
+    let low : (x + base ^ suc n * y) % base ≡ x % base = ap (λ m. (x + m) % base) whole ∙ add-mul-mod_self_left x base (base ^ n * y) in
+    let high : (x + base ^ suc n * y) / base ≡ x / base + base ^ n * y = ap (λ m. (x + m) / base) whole ∙ add-mul-div_left x (base ^ n * y) some in
+    λ i. low i ∷ (ap (lowest_digits base n) high ∙ low_digits base n (x / base) y some) i
+
+-- fields are those of the words that hold them, whatever words follow
+pub fields_taken : (width len k : ℕ) (words : List ℕ) → k ≤ length words → len * width ≤ 64 * k → fields width len (take k words) ≡ fields width len words
+fields_taken width len k words within hold =
+    let base = 2 ^ width in
+    let r = 64 * k - len * width in
+    let power : 2 ^ (64 * k) ≡ base ^ len * 2 ^ r = power_split (len * width) r (64 * k) (omega arith) ∙ ap (λ m. m * 2 ^ r) (sym (power_of_power width len)) in
+    let whole : words_number words ≡ words_number (take k words) + base ^ len * (2 ^ r * words_number (drop k words)) =
+    number_split words k within
+    ∙ ap (λ m. words_number (take k words) + m) (ap (λ m. m * words_number (drop k words)) power ∙ mul_assoc (base ^ len) (2 ^ r) (words_number (drop k words))) in
+    sym (ap (lowest_digits base len) whole ∙ low_digits base len (words_number (take k words)) (2 ^ r * words_number (drop k words)) (pow_pos width))

@@ -1,6 +1,7 @@
 //! List sections: a word with the number of items, a word with their width, and the items as packed fields.
-ghost use Rattle.std.specs.Prelude.{◌≡◌, ◌+◌, ◌*◌, ◌<◌, ◌≤◌, ◌^◌, IfOk, length};
-ghost use Rattle.sx_spec.specs.Fields.{is_zero_after, words_for};
+ghost use Rattle.std.specs.Prelude.{◌≡◌, ◌+◌, ◌*◌, ◌<◌, ◌≤◌, ◌^◌, IfOk, drop, length};
+ghost use Rattle.sx_spec.specs.Fields.{fields, is_zero_after, words_for};
+ghost use Rattle.sx_spec.specs.Layout.{list_of, list_section, section_of};
 ghost use Rattle.sx_fields.specs.Sections.{list_found};
 
 /// The check that there are as many words as a section asks for.
@@ -54,6 +55,9 @@ pub fn list_check(
     requires few { most < 2 ^ 32 }
     requires narrow { high_width ≤ 64 }
     ensures found { result ≡ list_found least most low_width high_width words.now at }
+    ensures section { IfOk result (λ s.
+        section_of (list_of least most low_width high_width) (drop at words.now)
+            ≡ list_section s.width (fields s.width s.count (drop s.body words.now))) }
     ensures narrow { IfOk result (λ s. s.width ≤ 64) }
     ensures few { IfOk result (λ s. s.count < 2 ^ 32) }
     ensures body { IfOk result (λ s. s.body + words_for (s.count * s.width) ≡ s.after) }
