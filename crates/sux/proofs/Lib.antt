@@ -7,4 +7,5 @@ pub mod Advances
 pub mod Endings
 pub mod Builds
 pub mod Queries
+pub mod LittleEndian
 pub mod Shelves

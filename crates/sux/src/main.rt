@@ -5,5 +5,6 @@
 mod dump;
 mod messages;
 mod telling;
+mod words;
 
 fn main() {}
