@@ -1,2 +1,6 @@
 pub mod Writing
 pub mod Files
+pub mod Betweens
+pub mod Feeds
+pub mod Fills
+pub mod Readies

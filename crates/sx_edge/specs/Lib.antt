@@ -1,2 +1,5 @@
 pub mod Parts
 pub mod Shelf
+pub mod Reading
+pub mod Places
+pub mod Buffer

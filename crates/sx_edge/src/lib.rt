@@ -2,6 +2,7 @@
 //! the lines of a source; and objects in memory that stand for the outside.
 #![tactic(auto)]
 
+pub mod line;
 pub mod shelf;
 pub mod sink;
 pub mod source;
