@@ -4,3 +4,4 @@ pub mod Betweens
 pub mod Feeds
 pub mod Fills
 pub mod Readies
+pub mod LineLaws
