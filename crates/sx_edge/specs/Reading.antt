@@ -1,7 +1,7 @@
 -- What a line reader is to a contract, and what its calls do.
 use Rattle.std.specs.Prelude.{◌≡◌, ◌≢◌, ℕ, ◌+◌, ◌<◌, ◌≤◌, ◌⊎◌, ◌||◌, nat_lt, List, [], ◌∷◌, ◌++◌, length, slice_index_or, Bool, true, false, Option, Some, None, is_some}
 use Rattle.std.specs.List.{list_any}
-use Rattle.std.specs.Io.KnownBytes.{Consumes, Keeps, IsAtEnd}
+use Rattle.std.specs.Io.KnownBytes.{Consumes, IsAtEnd}
 use Rattle.sx_spec.specs.Causes.{Rose}
 use Rattle.sx_spec_strings.specs.Lines.{is_line_feed, lines}
 use Rattle.sx_edge.specs.Places.{HasNoFeed}
@@ -32,7 +32,7 @@ is_ready r = is_some r.fault || r.ended || list_any is_line_feed r.held || nat_l
 
 -- nothing was read from a source that had these bytes left and so many faults
 abbrev pub ReadsNothing : Option (List ℕ) → Option (List ℕ) → ℕ → ℕ → Type 0
-ReadsNothing before after faults now = Keeps before after × (now ≡ faults)
+ReadsNothing before after faults now = (after ≡ before) × (now ≡ faults)
 
 -- bytes were taken from the source, and `cut` was given of what was held and them; nothing is taken after the end
 pub record Takes (old new : Reading) (before after : Option (List ℕ)) (cut : List ℕ) : Type 0 where
@@ -40,7 +40,7 @@ pub record Takes (old new : Reading) (before after : Option (List ℕ)) (cut : L
   pub consumed : Consumes before after bytes
   pub whole : old.held ++ bytes ≡ cut ++ new.held
   pub end : new.ended ≡ true → (old.ended ≡ true) ⊎ IsAtEnd after
-  pub ended : old.ended ≡ true → (bytes ≡ []) × Keeps before after × (new.ended ≡ true)
+  pub ended : old.ended ≡ true → (bytes ≡ []) × (after ≡ before) × (new.ended ≡ true)
 
 -- a line was given: up to a line feed, or a rest that is not empty at the end
 pub record GivesLine (old new : Reading) (before after : Option (List ℕ)) : Type 0 where
@@ -65,6 +65,8 @@ pub record FailsRead (old new : Reading) (before after : Option (List ℕ)) : Ty
   pub no_feed : HasNoFeed new.held
   pub short : length new.held ≤ old.max
   pub goes_on : new.ended ≡ false
+  -- it was read only where the line couldn't be told without
+  pub wanted : is_ready old ≡ false
 
 -- line number n is too long, whatever bytes come behind those held
 pub record IsTooLong (old new : Reading) (before after : Option (List ℕ)) (n : ℕ) : Type 0 where
