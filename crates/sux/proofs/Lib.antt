@@ -8,4 +8,5 @@ pub mod Endings
 pub mod Builds
 pub mod Queries
 pub mod LittleEndian
+pub mod Readings
 pub mod Shelves

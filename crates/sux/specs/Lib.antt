@@ -4,4 +4,5 @@ pub mod KeyLines
 pub mod Writing
 pub mod Telling
 pub mod Progress
+pub mod KeyReading
 pub mod Served

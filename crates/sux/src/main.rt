@@ -3,6 +3,7 @@
 
 
 mod dump;
+mod keys;
 mod messages;
 mod telling;
 mod words;

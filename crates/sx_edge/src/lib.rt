@@ -3,7 +3,6 @@
 #![tactic(auto)]
 
 pub mod line;
-pub mod memory;
 pub mod shelf;
 pub mod sink;
 pub mod source;
