@@ -1,6 +1,6 @@
 //! Where signatures fall: chunks, segments of cells, and places.
 
-ghost use Rattle.std.specs.Prelude.{◌≡◌, ◌+◌, ◌*◌, ◌<◌, ◌≤◌};
+ghost use Rattle.std.specs.Prelude.{◌≡◌, ◌+◌, ◌-◌, ◌*◌, ◌/◌, ◌^◌, ◌<◌, ◌≤◌};
 ghost use Rattle.sx_spec.specs.Chunks.{segment as segment_of, mix as mix_of, offset as offset_of, places as places_of, chunk_of as chunk_of_signature, chunk_bits as chunk_bits_of};
 ghost use Rattle.sx_spec.specs.Reply.{top_bits as top_bits_of};
 
@@ -18,16 +18,26 @@ pub fn chunk_bits(pairs: u32) -> u32
     32 - (pairs.saturating_sub(1) >> 10).leading_zeros()
 }
 
+/// The first `width` bits of a word, as a number.
+#[inline(always)]
+fn first_bits_of(word: u64, width: u32) -> u64
+    requires { width ≤ 64 }
+    ensures value { result ≡ word / 2 ^ (64 - width) }
+    ensures below { result < 2 ^ width }
+{
+    if width == 0 {
+        return 0;
+    }
+    word >> (64 - width)
+}
+
 /// The chunk of a signature among 2 to the power `c`, which is at most 32.
 #[inline(always)]
 pub fn chunk_of(sig: &Signature, c: u32) -> u32
     requires { c ≤ 32 }
     ensures { result ≡ chunk_of_signature sig.now c }
 {
-    if c == 0 {
-        return 0;
-    }
-    (sig.w0 >> (64 - c)) as u32
+    first_bits_of(sig.w0, c) as u32
 }
 
 /// How many cells each of the three segments of a chunk of so many pairs has.
@@ -92,8 +102,5 @@ pub fn top_bits(sig: &Signature, width: u32) -> u64
     requires { width ≤ 64 }
     ensures { result ≡ top_bits_of width sig.now }
 {
-    if width == 0 {
-        return 0;
-    }
-    sig.w2 >> (64 - width)
+    first_bits_of(sig.w2, width)
 }

@@ -1,6 +1,6 @@
 //! Signatures: 192 bits of a digest, of which the first are kept.
 
-ghost use Rattle.std.specs.Prelude.{◌≡◌, ◌-◌, ◌*◌, ◌/◌, ◌^◌, ◌<◌, ◌≤◌, take};
+ghost use Rattle.std.specs.Prelude.{◌≡◌, ◌-◌, ◌*◌, ◌/◌, ◌^◌, ◌<◌, ◌≤◌, length, take};
 ghost use Rattle.sha2.specs.Hashers.{Holds256};
 ghost use Rattle.sx_spec_strings.specs.Bits.{bytes_bits, tagged};
 ghost use Rattle.sx_spec.specs.Signature.{kept_bits, signature, signature_from};
@@ -43,9 +43,10 @@ fn top_kept(word: u64, kept: u32) -> u64
     word >> (64 - kept) << (64 - kept)
 }
 
-/// The first `kept` bits of a digest.
-fn first_bits(digest: &[u8; 32], kept: u32) -> Signature
-    requires { kept ≤ 192 }
+/// The first `kept` bits of a digest of 32 bytes.
+fn first_bits(digest: &[u8], kept: u32) -> Signature
+    requires whole { length digest.now ≡ 32 }
+    requires few { kept ≤ 192 }
     ensures { result ≡ signature_from (kept_bits kept (bytes_bits (take 24 digest.now))) }
 {
     Signature {

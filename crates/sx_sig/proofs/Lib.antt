@@ -1,0 +1,3 @@
+pub mod ChunkBits
+pub mod DigestWords
+pub mod Messages
