@@ -1,14 +1,14 @@
 -- Key lists and what is put to their end.
-use Rattle.std.proofs.Common.{◌≡◌, ℕ, zero, suc, ◌+◌, ◌-◌, ◌^◌, ◌<◌, ◌≤◌, List, [], ◌∷◌, ◌++◌, length, take, get_or, refl, sym, ap, subst, ◌∙◌, arith, inl, inr, Option, Some, None, Bool, true}
+use Rattle.std.proofs.Common.{◌≡◌, ℕ, zero, suc, ◌+◌, ◌-◌, ◌<◌, ◌≤◌, List, [], ◌∷◌, ◌++◌, length, take, get_or, refl, sym, ap, subst, ◌∙◌, arith, inl, inr, Option, Some, None, Bool, true}
 use Rattle.std.specs.Prelude.{slice_get, filter_map, option_map, ◌⊎◌, if◌then◌else◌}
 use Rattle.std.specs.List.{AllByRecursion, enumerate_from, cons_option}
 use Rattle.std.proofs.lemmas.List.{take-append-le}
 use Rattle.std.proofs.lemmas.List.Sums.{sum_by_push}
 use Rattle.sx_spec.specs.declared.Limits.{Limits}
-use Rattle.sx_spec.specs.Keys.{refusal, fault_at, total_bytes, AreKeys, IsKeyFile, KeyFault}
+use Rattle.sx_spec.specs.Keys.{refusal, fault_at, total_bytes, AreKeys, IsKeyFile}
 use Rattle.sx_spec.specs.Laws.{AreBytes}
 use Rattle.sx_spec.proofs.KeyFiles.{faultless_lines_are_keys}
-use Rattle.sx_bits.specs.KeyLists.{Keys, IsWithinStandard, IsKeyList}
+use Rattle.sx_bits.specs.KeyLists.{Keys, IsKeyList}
 
 -- ---- lists of which nothing is kept
 
@@ -62,13 +62,13 @@ module _ (limits : Limits) (lines : List (List ℕ)) (line : List ℕ) where
   pub faultless_push : AreKeys limits lines → refusal limits lines line ≡ None → AreKeys limits (lines ++ line ∷ [])
   faultless_push keys free =
       kept_none (fault_at limits (lines ++ line ∷ [])) 1 (lines ++ line ∷ []) (λ i x at.
-        elim (in_push lines line i x at) [
-          | inl (lt, there) ↦ faults_before i x (omega arith) ∙ none_kept (fault_at limits lines) 1 lines keys i x there
-          | inr (last, same) ↦
+      elim (in_push lines line i x at) [
+        | inl (lt, there) ↦ faults_before i x (omega arith) ∙ none_kept (fault_at limits lines) 1 lines keys i x there
+        | inr (last, same) ↦
             let e : (1 + i) - 1 ≡ length lines = omega arith in
             let whole : take ((1 + i) - 1) (lines ++ line ∷ []) ≡ lines = ap (λ n. take n (lines ++ line ∷ [])) e ∙ take_whole lines (line ∷ []) in
             ap (option_map (λ r. record { line = 1 + i; reason = r })) (ap (λ ks. refusal limits ks x) whole ∙ ap (refusal limits lines) (sym same) ∙ free)
-        ])
+      ])
 
 bytes_push : (lines : List (List ℕ)) (line : List ℕ) → AreBytes lines → AllByRecursion (λ b. b < 256) line → AreBytes (lines ++ line ∷ [])
 bytes_push [] line all one = (one, tt)
@@ -103,6 +103,6 @@ pub pushed_list : (limits : Limits) (lines seen : List (List ℕ)) (line copy : 
 pushed_list limits lines seen line copy now bytes done (valid, all) whole free ok same after small =
     let free_here : refusal limits lines line ≡ None = subst (λ ls. refusal limits ls line ≡ None) whole free in
     let now_is : now ≡ lines ++ line ∷ [] =
-      after ∙ ap (λ (b : Bool). if b then lines ++ copy ∷ [] else lines) ok ∙ ap (λ l. lines ++ l ∷ []) same in
+    after ∙ ap (λ (b : Bool). if b then lines ++ copy ∷ [] else lines) ok ∙ ap (λ l. lines ++ l ∷ []) same in
     let P : List (List ℕ) → Type 0 = λ ls. IsKeyList (record { limits = limits; lines = ls }) × (bytes + length line ≡ total_bytes ls) in
     subst P (sym now_is) (key_list_push limits lines line valid free_here small, ap (λ n. n + length line) all ∙ sym (total_push lines line))

@@ -1,17 +1,13 @@
 -- The bits of a line, one by one.
-use Rattle.std.proofs.Common.{◌≡◌, ℕ, zero, suc, ◌+◌, ◌-◌, ◌*◌, ◌/◌, ◌%◌, ◌^◌, ◌<◌, ◌≤◌, true, false, cond, List, [], ◌∷◌, ◌++◌, length, get_or, refl, sym, ap, ◌∙◌, arith, inl, inr, lit<, zero-add}
-use Rattle.std.specs.Prelude.{◌==◌, fold}
+use Rattle.std.proofs.Common.{◌≡◌, ℕ, zero, suc, ◌+◌, ◌-◌, ◌*◌, ◌/◌, ◌%◌, false, List, [], ◌∷◌, ◌++◌, length, get_or, refl, sym, ap, ◌∙◌, arith, inl, inr}
+use Rattle.std.specs.Prelude.{◌==◌}
 use Rattle.std.specs.Int.{bit_at}
 use Rattle.std.proofs.lemmas.Bool.{cases_lt}
 use Rattle.std.proofs.lemmas.List.{length-append, get_or_append_left, get_or-append_right}
-use Rattle.std.proofs.lemmas.Nat.{shr-shr, shr_split}
-use Rattle.std.proofs.lemmas.Nat.Bits.{bit_at-zero, bit_at-lt, bit_at_cat_low}
-use Rattle.std.proofs.Math.Arith.{mod-mul}
-use Rattle.std.proofs.Math.Nat.{mod-one, mod-eq_of_lt, pow-succ', pow-zero}
-use Rattle.std.proofs.Math.Pow.{pow_pos}
+use Rattle.std.proofs.lemmas.Nat.Bits.{bit_at-zero}
 use Rattle.sx_spec.proofs.Signatures.{length-bytes_bits}
 use Rattle.sx_bits.proofs.NumberBits.{length-number_bits, get_or-number_bits}
-use Rattle.sx_spec_strings.specs.Bits.{Bits, number_bits, bits_number, bytes_bits, key_bits}
+use Rattle.sx_spec_strings.specs.Bits.{number_bits, bytes_bits, key_bits}
 
 -- ---- the bits of bytes
 
@@ -20,21 +16,21 @@ bit_of_bytes [] p = ap (λ m. m == 1) (sym (bit_at-zero (7 - p % 8)))
 bit_of_bytes (b ∷ bytes) p =
     elim (cases_lt p 8) [
       | inl lt ↦
-        let long = length-number_bits 8 b in
-        let e : p / 8 ≡ 0 = omega arith in
-        let f : 8 - 1 - p ≡ 7 - p % 8 = omega arith in
-        get_or_append_left (number_bits 8 b) (bytes_bits bytes) false p (omega arith)
-        ∙ get_or-number_bits 8 b p lt
-        ∙ ap (λ m. bit_at b m == 1) f
-        ∙ ap (λ m. bit_at (get_or (b ∷ bytes) m 0) (7 - p % 8) == 1) (sym e)
+          let long = length-number_bits 8 b in
+          let e : p / 8 ≡ 0 = omega arith in
+          let f : 8 - 1 - p ≡ 7 - p % 8 = omega arith in
+          get_or_append_left (number_bits 8 b) (bytes_bits bytes) false p (omega arith)
+          ∙ get_or-number_bits 8 b p lt
+          ∙ ap (λ m. bit_at b m == 1) f
+          ∙ ap (λ m. bit_at (get_or (b ∷ bytes) m 0) (7 - p % 8) == 1) (sym e)
       | inr ge ↦
-        let long = length-number_bits 8 b in
-        let e : p / 8 ≡ suc ((p - 8) / 8) = omega arith in
-        let f : p % 8 ≡ (p - 8) % 8 = omega arith in
-        get_or-append_right (number_bits 8 b) (bytes_bits bytes) 8 p false long ge
-        ∙ bit_of_bytes bytes (p - 8)
-        ∙ ap (λ m. bit_at (get_or bytes ((p - 8) / 8) 0) (7 - m) == 1) (sym f)
-        ∙ ap (λ m. bit_at (get_or (b ∷ bytes) m 0) (7 - p % 8) == 1) (sym e)
+          let long = length-number_bits 8 b in
+          let e : p / 8 ≡ suc ((p - 8) / 8) = omega arith in
+          let f : p % 8 ≡ (p - 8) % 8 = omega arith in
+          get_or-append_right (number_bits 8 b) (bytes_bits bytes) 8 p false long ge
+          ∙ bit_of_bytes bytes (p - 8)
+          ∙ ap (λ m. bit_at (get_or bytes ((p - 8) / 8) 0) (7 - m) == 1) (sym f)
+          ∙ ap (λ m. bit_at (get_or (b ∷ bytes) m 0) (7 - p % 8) == 1) (sym e)
     ]
 
 -- ---- the bits of a line

@@ -1,7 +1,6 @@
 -- Bytes that are copied out of a line, and zero bytes after them.
-use Rattle.std.proofs.Common.{◌≡◌, ℕ, ◌+◌, ◌-◌, ◌<◌, ◌≤◌, List, [], ◌∷◌, ◌++◌, length, get_or, take, drop, refl, sym, ap, ◌∙◌, arith, inl, inr}
+use Rattle.std.proofs.Common.{◌≡◌, ℕ, ◌+◌, ◌-◌, ◌<◌, List, ◌++◌, length, get_or, take, drop, refl, sym, ap, ◌∙◌, arith, inl, inr}
 use Rattle.std.specs.Prelude.{replicate, min, slice_index}
-use Rattle.std.specs.List.{between}
 use Rattle.std.proofs.lemmas.Bool.{cases_lt}
 use Rattle.std.proofs.lemmas.List.{length-append, length-take, length-drop, length-replicate, get_or-take, get_or-drop, get_or_append_left, get_or-append_right, get_or-replicate, get_or_past, take_at}
 
@@ -34,19 +33,19 @@ copied line front old tail rest start first have m i f h same zero_bytes all non
     let front_is : take have (front ++ drop have old) ≡ front = take_at front (drop have old) have long in
     let whole : take have (front ++ drop have old) ++ (tail ++ rest) ≡ front ++ (replicate m 0 ++ rest) = rw (front_is, zero_bytes) refl in
     let size : length (take have (front ++ drop have old) ++ (tail ++ rest)) ≡ have + (m + 0) =
-      ap length whole ∙ length-append front (replicate m 0 ++ rest)
-      ∙ (let a = length-append (replicate m 0) rest in let b = length-replicate {A = ℕ} m 0 in omega arith) in
+    ap length whole ∙ length-append front (replicate m 0 ++ rest)
+    ∙ (let a = length-append (replicate m 0) rest in let b = length-replicate {A = ℕ} m 0 in omega arith) in
     ap (λ xs. get_or xs i 0) whole ∙
     elim (cases_lt i have) [
       | inl low ↦
-        let g : first + i ≡ start + i = omega arith in
-        get_or_append_left front (replicate m 0 ++ rest) 0 i (omega arith)
-        ∙ ap (λ xs. get_or xs i 0) part
-        ∙ get_or-take have (drop first line) i 0 low
-        ∙ get_or-drop first line i 0
-        ∙ ap (λ k. get_or line k 0) g
+          let g : first + i ≡ start + i = omega arith in
+          get_or_append_left front (replicate m 0 ++ rest) 0 i (omega arith)
+          ∙ ap (λ xs. get_or xs i 0) part
+          ∙ get_or-take have (drop first line) i 0 low
+          ∙ get_or-drop first line i 0
+          ∙ ap (λ k. get_or line k 0) g
       | inr high ↦
-        get_or-append_right front (replicate m 0 ++ rest) have i 0 long high
-        ∙ padded m (i - have) rest none
-        ∙ sym (get_or_past line (start + i) 0 (omega arith))
+          get_or-append_right front (replicate m 0 ++ rest) have i 0 long high
+          ∙ padded m (i - have) rest none
+          ∙ sym (get_or_past line (start + i) 0 (omega arith))
     ]

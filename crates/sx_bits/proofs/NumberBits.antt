@@ -1,5 +1,5 @@
 -- The bits of a number, the highest first, and the number that bits write.
-use Rattle.std.proofs.Common.{◌≡◌, ℕ, zero, suc, ◌+◌, ◌-◌, ◌*◌, ◌/◌, ◌%◌, ◌^◌, ◌<◌, ◌≤◌, true, false, cond, List, [], ◌∷◌, ◌++◌, length, get_or, refl, sym, ap, ◌∙◌, arith, lit<, zero-add}
+use Rattle.std.proofs.Common.{◌≡◌, ℕ, zero, suc, ◌+◌, ◌-◌, ◌*◌, ◌/◌, ◌%◌, ◌^◌, ◌<◌, ◌≤◌, false, cond, length, get_or, refl, sym, ap, ◌∙◌, arith, lit<}
 use Rattle.std.specs.Prelude.{◌==◌, fold}
 use Rattle.std.specs.Int.{bit_at}
 use Rattle.std.proofs.lemmas.List.{ext_get_or}
@@ -65,9 +65,9 @@ pub bits_number_is : (bits : Bits) (n x : ℕ) → length bits ≡ n → x < 2 ^
 bits_number_is bits n x long small each =
     let many = length-number_bits n x in
     let same : bits ≡ number_bits n x =
-      ext_get_or false bits (number_bits n x) (omega arith) (λ j lt.
-        let near : j < n = omega arith in
-        each j near ∙ sym (get_or-number_bits n x j near)) in
+    ext_get_or false bits (number_bits n x) (omega arith) (λ j lt.
+    let near : j < n = omega arith in
+    each j near ∙ sym (get_or-number_bits n x j near)) in
     ap bits_number same ∙ bits_number-number_bits n x small
 
 -- ---- numbers whose low bits are cleared

@@ -1,5 +1,5 @@
 -- Lists of keys within limits.
-use Rattle.std.specs.Prelude.{ℕ, ◌≤◌, Bool, true, false, List, Option, Some, None}
+use Rattle.std.specs.Prelude.{ℕ, ◌≤◌, Bool, false, List, Option, Some, None}
 use Rattle.std.specs.declared.cmp.Ordering.{Ordering}
 use Rattle.sx_spec.specs.declared.Limits.{Limits}
 use Rattle.sx_spec.specs.Keys.{Reason, zero_byte, doubled, unordered, too_many_keys, too_many_bytes, standard_limits, AreKeys}

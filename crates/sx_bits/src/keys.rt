@@ -92,6 +92,7 @@ impl KeyList {
         requires { length line.now ≤ self.old.limits.max_line }
         ensures ok { OnOk result (self.new ≡ record self.old { lines = self.old.lines ++ line.now ∷ [] }) }
         ensures err { OnErr result (self.new ≡ self.old) }
+        ensures limits { self.new.limits ≡ self.old.limits }
         // want of memory comes only where no reason is against the line
         ensures refusal { MatchResult result (λ _. refusal self.old.limits self.old.lines line.now ≡ None)
             (λ fault. refusal self.old.limits self.old.lines line.now ≡ reason_of fault) }

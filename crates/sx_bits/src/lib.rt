@@ -11,3 +11,6 @@ pub use fault::KeyFault;
 pub use keys::KeyList;
 pub use sx_spec::Limits;
 pub use view::BitView;
+
+#[cfg(test)]
+mod tests;

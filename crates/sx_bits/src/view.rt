@@ -74,4 +74,27 @@ impl<'a> BitView<'a> {
         }
         used
     }
+
+    /// The first `n` bits. `n` is at most the length.
+    #[inline(always)]
+    pub fn prefix(&self, n: u32) -> BitView<'a>
+        requires { n ≤ length (bits_of self.now) }
+        ensures { bits_of result ≡ take n (bits_of self.now) }
+    {
+        self.range(0, n)
+    }
+
+    /// The bits from bit `from` up to before bit `to`, which is at most the length.
+    #[inline(always)]
+    pub fn range(&self, from: u32, to: u32) -> BitView<'a>
+        requires ordered { from ≤ to }
+        requires within { to ≤ length (bits_of self.now) }
+        ensures { bits_of result ≡ take (to - from) (drop from (bits_of self.now)) }
+    {
+        BitView {
+            line: self.line,
+            from: self.from + from,
+            to: self.from + to,
+        }
+    }
 }

@@ -1,12 +1,11 @@
 -- How many bits number the chunks.
-use Rattle.std.proofs.Common.{◌≡◌, ℕ, zero, suc, ◌+◌, ◌-◌, ◌*◌, ◌/◌, ◌^◌, ◌<◌, ◌≤◌, true, false, refl, sym, ap, subst, ◌∙◌, arith, inl, inr, leb, zero-add}
+use Rattle.std.proofs.Common.{◌≡◌, ℕ, zero, suc, ◌+◌, ◌-◌, ◌*◌, ◌/◌, ◌^◌, ◌<◌, ◌≤◌, true, arith, inl, inr}
 use Rattle.std.specs.Prelude.{nat_le}
 use Rattle.std.proofs.lemmas.Bool.{cases_lt, le-leb, leb-true}
 use Rattle.std.proofs.lemmas.Nat.{leading_length, pow_pos}
 use Rattle.std.proofs.Math.Nat.{pow-succ'}
 use Rattle.std.proofs.Math.Pow.{pow_mono}
 use lib.Count.{count_leading_zeros}
-use Rattle.sx_spec_strings.specs.First.{least}
 use Rattle.sx_spec_strings.specs.Numbers.{binary_digits}
 use Rattle.sx_spec_strings.proofs.NumberLaws.{least_from_le, least_from_passes, digits_hold}
 use Rattle.sx_spec.specs.Chunks.{chunk_bits, chunk_size}
@@ -31,10 +30,10 @@ chunk_bits_ge pairs q zero c le full wide = omega arith
 chunk_bits_ge pairs q (suc m) c le full wide =
     elim (cases_lt c (suc m)) [
       | inl lt ↦
-        let smaller : 2 ^ c ≤ 2 ^ m = pow_mono (omega arith) in
-        let twice = pow-succ' 2 m in
-        let some = full (omega arith) in
-        absurd (omega arith)
+          let smaller : 2 ^ c ≤ 2 ^ m = pow_mono (omega arith) in
+          let twice = pow-succ' 2 m in
+          let some = full (omega arith) in
+          absurd (omega arith)
       | inr ge ↦ ge
     ]
 

@@ -1,6 +1,6 @@
 -- The words of a digest, and their first bits.
-use Rattle.std.proofs.Common.{◌≡◌, ℕ, zero, suc, ◌+◌, ◌-◌, ◌*◌, ◌/◌, ◌%◌, ◌^◌, ◌<◌, ◌≤◌, false, List, ◌++◌, length, get_or, take, drop, refl, sym, ap, subst, ◌∙◌, arith, inl, inr, lit<, lit≤}
-use Rattle.std.specs.Prelude.{◌==◌, min, replicate, slice_index}
+use Rattle.std.proofs.Common.{◌≡◌, ℕ, zero, suc, ◌+◌, ◌-◌, ◌*◌, ◌/◌, ◌%◌, ◌^◌, ◌<◌, ◌≤◌, false, List, length, get_or, take, drop, sym, ap, ◌∙◌, arith, inl, inr, lit<, lit≤}
+use Rattle.std.specs.Prelude.{◌==◌, min, replicate}
 use Rattle.std.specs.Int.{bit_at}
 use Rattle.std.proofs.lemmas.Bool.{cases_lt}
 use Rattle.std.proofs.lemmas.List.{length-append, length-take, length-drop, length-replicate, get_or-take, get_or-drop, get_or_append_left, get_or-append_right, get_or-replicate, take_all}
@@ -9,7 +9,6 @@ use Rattle.std.proofs.lemmas.Nat.Bits.{bit_at_cat_low, bit_at_cat_high}
 use Rattle.std.proofs.Math.Nat.{pow-zero}
 use Rattle.byteorder.specs.Endian.{big_from, big_number}
 use Rattle.sx_spec_strings.specs.Bits.{Bits, bits_number, bytes_bits}
-use Rattle.sx_spec.specs.declared.Signature.{Signature}
 use Rattle.sx_spec.specs.Signature.{kept_bits, signature_from}
 use Rattle.sx_spec.proofs.Digits.{power_of_power}
 use Rattle.sx_spec.proofs.Signatures.{length-bytes_bits}
@@ -37,15 +36,15 @@ module _ (xs : List ℕ) (small : (i : ℕ) → get_or xs i 0 < 2 ^ 8) where
       ap (λ m. bit_at (get_or xs i 0 * m + rest) p) e ∙
       elim (cases_lt p (n * 8)) [
         | inl low ↦
-          let f : suc i + n - 1 - p / 8 ≡ i + suc n - 1 - p / 8 = omega arith in
-          bit_at_cat_low (get_or xs i 0) (n * 8) rest p low ∙ bit_of_big (suc i) n p low
-          ∙ ap (λ k. bit_at (get_or xs k 0) (p % 8)) f
+            let f : suc i + n - 1 - p / 8 ≡ i + suc n - 1 - p / 8 = omega arith in
+            bit_at_cat_low (get_or xs i 0) (n * 8) rest p low ∙ bit_of_big (suc i) n p low
+            ∙ ap (λ k. bit_at (get_or xs k 0) (p % 8)) f
         | inr high ↦
-          let f : p - n * 8 ≡ p % 8 = omega arith in
-          let g : i ≡ i + suc n - 1 - p / 8 = omega arith in
-          bit_at_cat_high (get_or xs i 0) (n * 8) rest p (big_small (suc i) n) high
-          ∙ ap (λ b. bit_at (get_or xs i 0) b) f
-          ∙ ap (λ k. bit_at (get_or xs k 0) (p % 8)) g
+            let f : p - n * 8 ≡ p % 8 = omega arith in
+            let g : i ≡ i + suc n - 1 - p / 8 = omega arith in
+            bit_at_cat_high (get_or xs i 0) (n * 8) rest p (big_small (suc i) n) high
+            ∙ ap (λ b. bit_at (get_or xs i 0) b) f
+            ∙ ap (λ k. bit_at (get_or xs k 0) (p % 8)) g
       ]
 
 -- the bits of word m of a digest
@@ -59,7 +58,7 @@ bit_of_word digest m j small few lt =
     let rest_small : (i : ℕ) → get_or rest i 0 < 2 ^ 8 = λ i. (let g = get_or-drop (8 * m) digest i 0 in let h = small (8 * m + i) in omega arith) in
     bit_of_bytes (take 24 digest) p
     ∙ ap (λ b. bit_at b (7 - p % 8) == 1)
-      (get_or-take 24 digest (p / 8) 0 (omega arith) ∙ ap (λ k. get_or digest k 0) e ∙ sym (get_or-drop (8 * m) digest (0 + 8 - 1 - (63 - j) / 8) 0))
+    (get_or-take 24 digest (p / 8) 0 (omega arith) ∙ ap (λ k. get_or digest k 0) e ∙ sym (get_or-drop (8 * m) digest (0 + 8 - 1 - (63 - j) / 8) 0))
     ∙ ap (λ k. bit_at (get_or rest (0 + 8 - 1 - (63 - j) / 8) 0) k == 1) f
     ∙ ap (λ b. b == 1) (sym (bit_of_big rest rest_small 0 8 (63 - j) (omega arith)))
 
@@ -95,15 +94,15 @@ kept_word bits keep at kept w long inside kept_is small each =
     let u = 64 - kept in
     let le = cleared_le w u in
     sym (bits_number_is (take 64 (drop at all)) 64 (cleared w u) (omega arith) (omega arith) (λ j lt.
-      get_or-take 64 (drop at all) j false lt ∙ get_or-drop at all j false ∙
-      elim (cases_lt (at + j) keep) [
-        | inl front ↦
+    get_or-take 64 (drop at all) j false lt ∙ get_or-drop at all j false ∙
+    elim (cases_lt (at + j) keep) [
+      | inl front ↦
           kept_inside keep bits (at + j) front (omega arith) ∙ each j lt
           ∙ ap (λ m. m == 1) (sym (bit_kept w u (63 - j) (omega arith)))
-        | inr past ↦
+      | inr past ↦
           kept_past keep bits (at + j) past (omega arith)
           ∙ ap (λ m. m == 1) (sym (bit_cleared w u (63 - j) (omega arith)))
-      ]))
+    ]))
 
 -- ---- the signature
 
@@ -123,5 +122,5 @@ words_are digest keep r0 r1 r2 k0 k1 k2 first second third small long q0 q1 q2 s
     let f0 = e0 ∙ kept_word bits keep 0 k0 r0 all (lit≤ tt) (omega arith) s0 (λ j lt. bit_of_word digest 0 j small (lit< tt) lt ∙ ap (λ w. bit_at w (63 - j) == 1) (sym q0)) in
     let f1 = e1 ∙ kept_word bits keep 64 k1 r1 all (lit≤ tt) l1 s1 (λ j lt. bit_of_word digest 1 j small (lit< tt) lt ∙ ap (λ w. bit_at w (63 - j) == 1) (sym q1)) in
     let f2 = e2 ∙ kept_word bits keep 128 k2 r2 all (lit≤ tt) l2 s2 (λ j lt. bit_of_word digest 2 j small (lit< tt) lt ∙ ap (λ w. bit_at w (63 - j) == 1) (sym q2))
-      ∙ ap bits_number (take_all 64 (drop 128 (kept_bits keep bits)) (omega arith)) in
+    ∙ ap bits_number (take_all 64 (drop 128 (kept_bits keep bits)) (omega arith)) in
     λ i. record { w0 = f0 i; w1 = f1 i; w2 = f2 i }

@@ -7,3 +7,6 @@ mod signing;
 pub use chunks::{chunk_bits, chunk_of, places, segment, top_bits};
 pub use signing::sign;
 pub use sx_spec::{Edge as Places, Method, Signature};
+
+#[cfg(test)]
+mod tests;

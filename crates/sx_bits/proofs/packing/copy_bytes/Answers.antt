@@ -1,4 +1,4 @@
-use Rattle.std.proofs.Common.{◌≡◌, ◌+◌, ◌-◌, ◌++◌, length, take, drop, ap, ◌∙◌, arith}
+use Rattle.std.proofs.Common.{◌≡◌, ◌+◌, ◌-◌, ◌++◌, length, drop, ap, ◌∙◌, arith}
 use Rattle.std.proofs.lemmas.List.{length-append, length-take, length-drop}
 use Rattle.sx_bits.proofs.LineBytes.{copied}
 use Rattle.sx_bits.proofs.packing.copy_bytes.Goals as goal
@@ -19,4 +19,4 @@ returns c = λ i lt.
     let e = length-take (length one - have) (drop have one) in
     let h = length-drop (length one - have) (drop have one) in
     copied line front old c.fill.new.self _ c.args.first first have _ i c.min-first.ensures c.min-have.ensures
-      c.copy_from_slice.ensures.after (c.fill.ensures.after (λ y same. same)) (omega arith) (omega arith) lt
+    c.copy_from_slice.ensures.after (c.fill.ensures.after (λ y same. same)) (omega arith) (omega arith) lt

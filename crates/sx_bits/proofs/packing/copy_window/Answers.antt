@@ -1,4 +1,4 @@
-use Rattle.std.proofs.Common.{◌≡◌, ◌+◌, ◌*◌, ◌/◌, ◌%◌, ◌<◌, ◌∙◌, sym, ap, arith, slice_index}
+use Rattle.std.proofs.Common.{◌∙◌, sym, arith}
 use Rattle.sx_bits.proofs.Windows.{aligned_window, shifted_window}
 use Rattle.sx_bits.proofs.packing.copy_window.Goals as goal
 

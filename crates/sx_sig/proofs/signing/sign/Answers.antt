@@ -1,4 +1,4 @@
-use Rattle.std.proofs.Common.{◌≡◌, ◌*◌, ◌+◌, ◌-◌, ◌++◌, length, take, drop, ap, subst, sym, ◌∙◌, arith}
+use Rattle.std.proofs.Common.{◌*◌, ◌++◌, length, take, ap, subst, sym, ◌∙◌, arith}
 use Rattle.sha2.specs.Hashers.{Holds256}
 use Rattle.sx_spec_strings.specs.Bits.{packed_bytes, bytes_bits}
 use Rattle.sx_spec.specs.Signature.{signature, signature_from, kept_bits}
@@ -24,8 +24,8 @@ pieces-preserved c =
     let step : Holds256 c.update.new.self (held ++ take used c.fill-used.new.buf) = c.update.ensures held c.pieces.invariant in
     let long = c.len-length.ensures.value in
     subst (Holds256 c.update.new.self)
-      (ap (λ piece. held ++ piece) c.fill-used.ensures.packed ∙ piece_more front bits i (omega arith))
-      step
+    (ap (λ piece. held ++ piece) c.fill-used.ensures.packed ∙ piece_more front bits i (omega arith))
+    step
 
 pub returns : goal.returns
 unfolding signature

@@ -1,4 +1,4 @@
-use Rattle.std.proofs.Common.{◌≡◌, ap, arith}
+use Rattle.std.proofs.Common.{ap, arith}
 use Rattle.sx_bits.specs.KeyLists.{Keys}
 use Rattle.sx_bits.proofs.Faultless.{key_file}
 use Rattle.sx_bits.proofs.keys.KeyList.len.Goals as goal

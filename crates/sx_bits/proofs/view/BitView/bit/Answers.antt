@@ -1,8 +1,7 @@
-use Rattle.std.proofs.Common.{◌≡◌, ◌+◌, ◌-◌, ◌*◌, ◌/◌, ◌%◌, ◌≤◌, ◌<◌, sym, ap, ◌∙◌, arith, length, slice_index}
+use Rattle.std.proofs.Common.{◌+◌, ◌-◌, ◌%◌, sym, ap, ◌∙◌, arith}
 use Rattle.std.specs.Prelude.{◌==◌}
 use Rattle.std.proofs.lemmas.Nat.Bits.{shr_and_one}
 use Rattle.std.specs.Int.{bit_at as number_bit}
-use Rattle.sx_bits.specs.Views.{bits_of}
 use Rattle.sx_bits.proofs.ViewBits.{length-bits_of, bit_of_view}
 use Rattle.sx_bits.proofs.view.BitView.bit.Goals as goal
 

@@ -1,4 +1,4 @@
-use Rattle.std.proofs.Common.{◌≡◌, ℕ, ◌^◌, List, get_or, ◌+◌, ◌-◌, ◌*◌, ◌/◌, ◌%◌, ◌≤◌, ◌<◌, ◌++◌, refl, sym, ap, ◌∙◌, arith, length, set, take, drop}
+use Rattle.std.proofs.Common.{◌≡◌, ℕ, ◌^◌, List, get_or, ◌-◌, ◌*◌, ◌/◌, ◌%◌, ◌≤◌, ◌++◌, sym, ap, ◌∙◌, arith, length, set, take, drop}
 use Rattle.std.specs.Prelude.{min}
 use Rattle.std.specs.Int.{div_ceil}
 use Rattle.std.proofs.lemmas.List.{length-append, length-take, length-drop, get_or_append_left, length-set, set-append_left, take_at}
@@ -68,14 +68,14 @@ returns-then-count-gt0-clause-packed c =
     let n : used - 1 ≡ length out - 1 = omega arith in
     let unused : 8 - c.min-count.result % 8 ≡ 8 - length (piece v c.args.from) % 8 = omega arith in
     let read : get_or (out ++ drop used buf) (used - 1) 0 ≡ get_or out (length out - 1) 0 =
-      get_or_append_left out (drop used buf) 0 (used - 1) (omega arith) ∙ ap (λ m. get_or out m 0) n in
+    get_or_append_left out (drop used buf) 0 (used - 1) (omega arith) ∙ ap (λ m. get_or out m 0) n in
     ap (take used) (set-append_left out (drop used buf) (used - 1) last (omega arith))
     ∙ take_at (set out (used - 1) last) (drop used buf) used (length-set out (used - 1) last ∙ filled)
     ∙ ap (λ m. set out m last) n
     ∙ partial_piece v c.args.from out last c.copy_window.ensures.bytes (filled ∙ c.div_ceil-used.ensures ∙ ap (λ m. div_ceil m 8) same)
-      (omega arith) c.copy_window.ensures.window
-      (c.clear_low.ensures ∙ ap (λ m. m / 2 ^ (8 - c.min-count.result % 8) * 2 ^ (8 - c.min-count.result % 8)) read
-      ∙ ap (λ u. get_or out (length out - 1) 0 / 2 ^ u * 2 ^ u) unused)
+    (omega arith) c.copy_window.ensures.window
+    (c.clear_low.ensures ∙ ap (λ m. m / 2 ^ (8 - c.min-count.result % 8) * 2 ^ (8 - c.min-count.result % 8)) read
+    ∙ ap (λ u. get_or out (length out - 1) 0 / 2 ^ u * 2 ^ u) unused)
 
 pub returns-else-count-gt0-clause-packed : goal.returns-else-count-gt0-clause-packed
 returns-else-count-gt0-clause-packed c =
@@ -88,4 +88,4 @@ returns-else-count-gt0-clause-packed c =
     let filled : length out ≡ used = filled_length out buf used c.copy_window.auto.out c.if-count-gt0.array_long (omega arith) in
     take_at out (drop used buf) used filled
     ∙ full_piece v c.args.from out c.copy_window.ensures.bytes (filled ∙ c.div_ceil-used.ensures ∙ ap (λ m. div_ceil m 8) same)
-      (omega arith) c.copy_window.ensures.window
+    (omega arith) c.copy_window.ensures.window

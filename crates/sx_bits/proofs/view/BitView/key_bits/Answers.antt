@@ -1,4 +1,4 @@
-use Rattle.std.proofs.Common.{◌≡◌, ◌+◌, ◌-◌, ◌*◌, ◌≤◌, length, take, drop, ap, ◌∙◌, arith}
+use Rattle.std.proofs.Common.{◌+◌, ◌-◌, ◌*◌, length, arith}
 use Rattle.std.proofs.lemmas.List.{take_all}
 use Rattle.sx_spec_strings.specs.Bits.{key_bits}
 use Rattle.sx_bits.specs.Views.{bits_of}
