@@ -1,6 +1,6 @@
 // Cells whose xor at the places of each edge is its value.
 
-ghost use Rattle.std.specs.Prelude.{◌≡◌, ◌≢◌, ◌<◌, ◌≤◌, ℕ, All, IfOk, length, slice_index};
+ghost use Rattle.std.specs.Prelude.{◌≡◌, ◌≢◌, ◌<◌, ◌≤◌, ◌^◌, ℕ, All, IfOk, length, slice_index};
 ghost use Rattle.sx_spec.specs.Systems.{cells_at};
 ghost use Rattle.sx_peel.specs.Peeling.{AreFree, IsEdgeWithin, IsTakenOrder, vertex_in};
 ghost use Rattle.sx_static.specs.Solving.{AreMet, IsMet};
@@ -15,6 +15,7 @@ pub(crate) fn cells_of(alloc: Global, count: u32, edges: &[Edge], values: &[u64]
     requires values { length values.now ≡ length edges.now }
     requires order { IsTakenOrder edges.now order.now }
     ensures count { IfOk result (λ v. length v.items ≡ count) }
+    ensures words { IfOk result (λ v. All (λ w. w < 2 ^ 64) v.items) }
     ensures met { IfOk result (λ v. (i : ℕ) → i < length edges.now → IsMet edges.now values.now v.items i) }
 {
     let mut cells = vec![in alloc; 0u64; count as usize]?;
@@ -27,7 +28,9 @@ fn fill(cells: &mut [u64], edges: &[Edge], values: &[u64], order: &[Taken])
     requires within { All (IsEdgeWithin (length cells.old)) edges.now }
     requires values { length values.now ≡ length edges.now }
     requires order { AreFree edges.now order.now }
-    ensures { AreMet edges.now values.now cells.new order.now }
+    requires words { All (λ w. w < 2 ^ 64) cells.old }
+    ensures met { AreMet edges.now values.now cells.new order.now }
+    ensures words { All (λ w. w < 2 ^ 64) cells.new }
 {
     for place in (0..order.len()).rev() {
         let taken = order[place];
@@ -40,6 +43,7 @@ fn fill(cells: &mut [u64], edges: &[Edge], values: &[u64], order: &[Taken])
 fn settle(cells: &mut [u64], edge: Edge, slot: u8, value: u64)
     requires within { IsEdgeWithin (length cells.old) edge }
     ensures met { cells_at cells.new edge ≡ value }
+    ensures words { All (λ w. w < 2 ^ 64) cells.old → All (λ w. w < 2 ^ 64) cells.new }
     ensures others { (v : ℕ) → v ≢ vertex_in edge slot → slice_index cells.new v ≡ slice_index cells.old v }
 {
     let (a, b, c) = (edge.a as usize, edge.b as usize, edge.c as usize);

@@ -21,7 +21,18 @@ pub(crate) fn edges_of(alloc: Global, sigs: &[Signature], s: u32) -> Result<Vec<
 {
     let mut edges = Vec::with_capacity(alloc, sigs.len())?;
     for sig in sigs {
-        edges.push(places(sig, 0, s))?;
+        edges.push(edge_of(*sig, s))?;
     }
     Ok(edges)
+}
+
+/// The edge of a signature at the first try.
+fn edge_of(sig: Signature, s: u32) -> Edge
+    requires some { 1 ≤ s }
+    requires few { s ≤ 1431655765 }
+    ensures edge { result ≡ places sig 0 s }
+    ensures within { IsEdgeWithin (3 * s) result }
+    ensures word { sig.w0 < 2 ^ 64 }
+{
+    places(&sig, 0, s)
 }

@@ -1,7 +1,7 @@
 //! Static functions: a value for each signature of a list, read as the xor of three cells.
 #![tactic(auto)]
 
-ghost use Rattle.std.specs.Prelude.{◌≡◌, ◌*◌, ◌<◌, ◌≤◌, IfOk, length};
+ghost use Rattle.std.specs.Prelude.{◌≡◌, ◌*◌, ◌<◌, ◌≤◌, [], ◌∷◌, IfOk, length};
 ghost use Rattle.sx_spec.specs.declared.Method.TheVariants.{Mwhc};
 ghost use Rattle.sx_static.specs.Answer.{IsAnswer, entries_of};
 
@@ -73,7 +73,7 @@ pub fn build(alloc: Global, sigs: &[Signature], values: &[u64], width: u32, meth
     match peel(alloc, 3 * s, &edges)? {
         Peeled::Order(order) => {
             let cells = cells_of(alloc, 3 * s, &edges, values, &order)?;
-            let table = vec![in alloc; 0, 3 * u64::from(s)]?;
+            let table = one_chunk_table(alloc, s)?;
             Ok(Built::Done(FuncBuf {
                 width,
                 pairs,
@@ -82,11 +82,25 @@ pub fn build(alloc: Global, sigs: &[Signature], values: &[u64], width: u32, meth
             }))
         }
         Peeled::Core(numbers) => {
-            let witnesses = vec![in alloc; Witness::Core(numbers)]?;
-            Ok(Built::Stuck {
-                chunk: 0,
-                witnesses,
-            })
+            let chunk = 0;
+            let witnesses = only_witness(alloc, Witness::Core(numbers))?;
+            Ok(Built::Stuck { chunk, witnesses })
         }
     }
+}
+
+/// The table of one chunk of three segments of `s` cells, at the first try.
+fn one_chunk_table(alloc: Global, s: u32) -> Result<Vec<u64>, AllocError>
+    ensures { IfOk result (λ v. v.items ≡ 0 ∷ 3 * s ∷ []) }
+{
+    Ok(vec![in alloc; 0, 3 * u64::from(s)]?)
+}
+
+/// A list of one witness.
+fn only_witness(alloc: Global, witness: Witness) -> Result<Vec<Witness>, AllocError>
+    ensures { IfOk result (λ v. v.items ≡ witness ∷ []) }
+{
+    let mut witnesses = Vec::new(alloc);
+    witnesses.push(witness)?;
+    Ok(witnesses)
 }

@@ -1,0 +1,4 @@
+pub mod Xors
+pub mod Filling
+pub mod Places
+pub mod OneChunk
