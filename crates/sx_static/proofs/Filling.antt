@@ -1,13 +1,13 @@
 -- Cells are set from the end of the order: a cell that no later edge has leaves the later edges met.
-use Rattle.std.proofs.Common.{◌≡◌, ◌≢◌, ℕ, zero, suc, ◌+◌, ◌<◌, ◌≤◌, Bool, true, false, cond, List, [], ◌∷◌, length, get_or, drop, map, refl, sym, ap, subst, ◌∙◌, arith, Some, None, Option}
-use Rattle.std.specs.Prelude.{◌==◌, ◌||◌, slice_get, slice_index, IsSomeAnd, Contains}
+use Rattle.std.proofs.Common.{◌≡◌, ◌≢◌, ℕ, zero, suc, ◌+◌, ◌<◌, Bool, true, false, cond, List, [], ◌∷◌, length, get_or, drop, map, refl, sym, subst, ◌∙◌, arith, Some, None}
+use Rattle.std.specs.Prelude.{◌==◌, ◌||◌, slice_get, slice_index, IsSomeAnd}
 use Rattle.std.specs.List.{AllByRecursion, cons_option}
 use Rattle.std.proofs.lemmas.Bool.Decides.{Decides-eqb}
 use Rattle.std.proofs.lemmas.List.{drop_more}
 use Rattle.std.proofs.lemmas.List.Sums.{sum_by-cons}
 use Rattle.std.proofs.lemmas.Option.{slice_get-get_or}
 use Rattle.sx_spec.specs.declared.Edge.{Edge}
-use Rattle.sx_spec.specs.Systems.{chosen, degree, has_vertex, cells_at, count_of}
+use Rattle.sx_spec.specs.Systems.{chosen, degree, has_vertex, cells_at}
 use Rattle.sx_spec.proofs.Counts.{all_counted, contains_counted}
 use Rattle.sx_spec.proofs.Witnesses.{below_length}
 use Rattle.sx_peel.specs.declared.Taken.{Taken}
@@ -66,8 +66,8 @@ later_met : (edges : List Edge) (values cells changed : List ℕ) (v : ℕ) → 
 later_met edges values cells changed v others [] none met = tt
 later_met edges values cells changed v others (t ∷ later) none met =
     elim (slice_get edges t.edge) as (λ o. degree v (cons_option o (chosen edges (taken_edges later))) ≡ 0
-        → IsSomeAnd o (λ e. cells_at cells e ≡ slice_index values t.edge)
-        → IsSomeAnd o (λ e. cells_at changed e ≡ slice_index values t.edge) × AreMet edges values changed later) [
+    → IsSomeAnd o (λ e. cells_at cells e ≡ slice_index values t.edge)
+    → IsSomeAnd o (λ e. cells_at changed e ≡ slice_index values t.edge) × AreMet edges values changed later) [
       | None ↦ λ none h. absurd h
       | Some e ↦ λ none h.
           let rest = chosen edges (taken_edges later) in

@@ -1,21 +1,20 @@
 -- Where there are few pairs, all lie in one chunk.
-use Rattle.std.proofs.Common.{◌≡◌, ◌≢◌, ℕ, zero, suc, ◌+◌, ◌-◌, ◌*◌, ◌/◌, ◌%◌, ◌^◌, ◌<◌, ◌≤◌, Bool, true, false, cond, List, [], ◌∷◌, ◌++◌, length, map, refl, sym, ap, subst, ◌∙◌, arith, Some, None, Option, zero-add}
-use Rattle.std.specs.Prelude.{◌==◌, nat_le, slice_get, slice_index, IsSomeAnd, filter, zip, option_map, All}
-use Rattle.std.specs.List.{AllByRecursion, AllZip, cons_option, range_with_len}
+use Rattle.std.proofs.Common.{◌≡◌, ℕ, zero, suc, ◌-◌, ◌*◌, ◌/◌, ◌%◌, ◌^◌, ◌<◌, ◌≤◌, true, cond, List, [], ◌∷◌, length, map, refl, sym, ap, subst, ◌∙◌, arith, Some, None, Option, zero-add}
+use Rattle.std.specs.Prelude.{◌==◌, nat_le, slice_get, filter, option_map, All}
+use Rattle.std.specs.List.{AllByRecursion, cons_option}
 use Rattle.std.proofs.lemmas.Bool.{le-leb}
 use Rattle.std.proofs.lemmas.Bool.Decides.{Decides-eqb}
 use Rattle.std.proofs.lemmas.List.{length-map}
 use Rattle.std.proofs.lemmas.List.Elements.{recursion_from_All}
 use Rattle.sx_spec.specs.declared.Edge.{Edge}
-use Rattle.sx_spec.specs.declared.Method.{Method}
-use Rattle.sx_spec.specs.declared.Method.TheVariants.{Mwhc, Gov3}
+use Rattle.sx_spec.specs.declared.Method.TheVariants.{Mwhc}
 use Rattle.sx_spec.specs.declared.Signature.{Signature}
 use Rattle.sx_spec_strings.specs.Numbers.{binary_digits}
 use Rattle.sx_spec_strings.proofs.NumberLaws.{least_from_le}
 use Rattle.sx_spec.specs.Chunks.{chunk_size, chunk_bits, chunk_count, chunk_of, segment, places}
 use Rattle.sx_spec.specs.Layout.{table_chunks, table_words}
-use Rattle.sx_spec.specs.StaticFunction.{Entry, signatures, chunk_of_entry, chunk_entries, chunk_segment, entry_equation, equations, TryWorks, IsLeastTry, AllDiffer, AreTwins, IsWitness, IsStuck, Chunk, Function, cells_from, cell_count, IsBuiltChunk, IsBuiltFunction}
-use Rattle.sx_spec.specs.Systems.{chosen, unknowns, cells_at, Solves, IsPeelable, IsIndexSet, IsCore, HasNoLeaf}
+use Rattle.sx_spec.specs.StaticFunction.{Entry, signatures, chunk_of_entry, chunk_entries, chunk_segment, entry_equation, equations, AllDiffer, IsStuck, IsBuiltFunction}
+use Rattle.sx_spec.specs.Systems.{chosen, unknowns, Solves, IsPeelable, IsCore, HasNoLeaf}
 use Rattle.sx_spec.proofs.Counts.{chosen_all, all_at}
 use Rattle.sx_spec.proofs.Witnesses.{slice_get-map}
 use Rattle.sx_static.specs.Answer.{entries_of}
@@ -144,11 +143,14 @@ module _ (sigs : List Signature) (values : List ℕ) (s : ℕ) (edges : List Edg
     differ = subst AllDiffer (sym (signatures_of_entries sigs values same)) differ;
     width = refl;
     pairs = sym count;
-    chunks = rw one (record {
-      segment = sym segment_is;
-      try = record { works = subst IsPeelable (sym edges_are) peelable; least = λ t h. absurd (omega arith) };
-      cells = subst (Solves cells) (sym equations_are) (solved_entries s cells sigs values same (met_edges cells met));
-    }, tt);
+    chunks = rw one (
+      record {
+        segment = sym segment_is;
+        try = record { works = subst IsPeelable (sym edges_are) peelable; least = λ t h. absurd (omega arith) };
+        cells = subst (Solves cells) (sym equations_are) (solved_entries s cells sigs values same (met_edges cells met));
+      },
+      tt,
+    );
     cells = omega arith;
   }
 
@@ -167,12 +169,15 @@ module _ (sigs : List Signature) (values : List ℕ) (s : ℕ) (edges : List Edg
     differ = subst AllDiffer (sym (signatures_of_entries sigs values same)) differ;
     within = let e = one in omega arith;
     first = λ j h. absurd (omega arith);
-    each_try = (record {
-      set = record { rising = core.set.rising; within = subst (λ n. AllByRecursion (λ i. i < n) numbers) as_many_entries core.set.within; nonempty = core.set.nonempty };
-      inside = chosen_all (λ e. chunk_of_entry (length (entries_of sigs values)) e ≡ 0) (entries_of sigs values) numbers
-          (λ i e at. in_chunk (length (entries_of sigs values)) few_entries e.0 (all_at (λ d. d.0.w0 < 2 ^ 64) (entries_of sigs values) words i e at));
-      fails = subst HasNoLeaf (sym (chosen_edges numbers)) core.core;
-    }, tt);
+    each_try = (
+      record {
+        set = record { rising = core.set.rising; within = subst (λ n. AllByRecursion (λ i. i < n) numbers) as_many_entries core.set.within; nonempty = core.set.nonempty };
+        inside = chosen_all (λ e. chunk_of_entry (length (entries_of sigs values)) e ≡ 0) (entries_of sigs values) numbers
+            (λ i e at. in_chunk (length (entries_of sigs values)) few_entries e.0 (all_at (λ d. d.0.w0 < 2 ^ 64) (entries_of sigs values) words i e at));
+        fails = subst HasNoLeaf (sym (chosen_edges numbers)) core.core;
+      },
+      tt,
+    );
   }
 
   -- the function, its table and its cells
@@ -181,6 +186,7 @@ module _ (sigs : List Signature) (values : List ℕ) (s : ℕ) (edges : List Edg
       × (table ≡ table_words 0 (table_chunks table))
   done table cells is peelable size met =
       let narrow : s < 2 ^ 50 = narrow_segment (length sigs) s segment_of few in
-      let chunks : table_chunks table ≡ record { segment = s; try = 0 } ∷ [] = ap table_chunks is ∙ one_chunk_table s narrow in
-      (subst (λ cs. IsBuiltFunction Mwhc 64 (entries_of sigs values) (record { width = 64; pairs = length sigs; chunks = cs; cells = cells })) (sym chunks) (built cells peelable size met),
-      is ∙ one_chunk_words s ∙ ap (table_words 0) (sym chunks))
+      let chunks : table_chunks table ≡ record { segment = s; try = 0 } ∷ [] = ap table_chunks is ∙ one_chunk_table s narrow in (
+        subst (λ cs. IsBuiltFunction Mwhc 64 (entries_of sigs values) (record { width = 64; pairs = length sigs; chunks = cs; cells = cells })) (sym chunks) (built cells peelable size met),
+        is ∙ one_chunk_words s ∙ ap (table_words 0) (sym chunks),
+      )

@@ -1,13 +1,9 @@
--- The places of a signature are three different cells.
-use Rattle.std.proofs.Common.{◌≡◌, ◌≢◌, ℕ, ◌+◌, ◌*◌, ◌<◌, ◌≤◌, List, [], ◌∷◌, ◌++◌, length, get_or, take, map, sym, ap, ◌∙◌, arith}
+-- The edges of signatures, one after another.
+use Rattle.std.proofs.Common.{◌≡◌, ℕ, ◌+◌, ◌<◌, List, [], ◌∷◌, ◌++◌, length, get_or, take, map, sym, ap, ◌∙◌}
 use Rattle.std.proofs.lemmas.List.{map_more}
 use Rattle.sx_spec.specs.declared.Edge.{Edge}
 use Rattle.sx_spec.specs.declared.Signature.{Signature}
 use Rattle.sx_spec.specs.Chunks.{places}
-use Rattle.sx_peel.specs.Peeling.{IsEdgeWithin}
-
-pub places_within : (s : ℕ) (e : Edge) → e.a < s → s ≤ e.b → e.b < 2 * s → 2 * s ≤ e.c → e.c < 3 * s → IsEdgeWithin (3 * s) e
-places_within s e a b below c end = record { a = omega arith; b = omega arith; c = omega arith; ab = omega arith; ac = omega arith; bc = omega arith }
 
 -- an edge more
 pub edges_more : (s : ℕ) (sigs : List Signature) (i : ℕ) (d : Signature) (edges : List Edge) (e : Edge) → i < length sigs → e ≡ places (get_or sigs i d) 0 s

@@ -6,11 +6,16 @@ ghost use Rattle.sx_peel.specs.Peeling.{AreFree, IsEdgeWithin, IsTakenOrder, ver
 ghost use Rattle.sx_static.specs.Solving.{AreMet, IsMet};
 
 use std::alloc::{AllocError, Global};
-
 use sx_peel::{Edge, Taken};
 
 /// So many cells that meet the value of each edge.
-pub(crate) fn cells_of(alloc: Global, count: u32, edges: &[Edge], values: &[u64], order: &[Taken]) -> Result<Vec<u64>, AllocError>
+pub(crate) fn cells_of(
+    alloc: Global,
+    count: u32,
+    edges: &[Edge],
+    values: &[u64],
+    order: &[Taken],
+) -> Result<Vec<u64>, AllocError>
     requires within { All (IsEdgeWithin count) edges.now }
     requires values { length values.now ≡ length edges.now }
     requires order { IsTakenOrder edges.now order.now }

@@ -4,12 +4,10 @@ ghost use Rattle.std.specs.Prelude.{◌≡◌, ◌*◌, ◌<◌, ◌≤◌, ◌^
 ghost use Rattle.sx_spec.specs.Chunks.{places};
 ghost use Rattle.sx_peel.specs.Peeling.{IsEdgeWithin};
 
+use crate::Signature;
 use std::alloc::{AllocError, Global};
-
 use sx_peel::Edge;
 use sx_sig::places;
-
-use crate::Signature;
 
 /// The edge of each signature at the first try, over segments of `s` cells.
 pub(crate) fn edges_of(alloc: Global, sigs: &[Signature], s: u32) -> Result<Vec<Edge>, AllocError>

@@ -9,15 +9,13 @@ mod cells;
 mod edges;
 mod twins;
 
-use std::alloc::{AllocError, Global};
-
 use cells::cells_of;
 use edges::edges_of;
+use std::alloc::{AllocError, Global};
 use sx_peel::{Edge, Peeled, peel};
 use sx_sig::segment;
-use twins::twins;
-
 pub use sx_spec::{Method, Signature};
+use twins::twins;
 
 /// A function as it is built.
 #[derive(Debug, Drop)]
@@ -57,7 +55,13 @@ pub enum Built {
 /// # Errors
 ///
 /// Want of memory.
-pub fn build(alloc: Global, sigs: &[Signature], values: &[u64], width: u32, method: Method) -> Result<Built, AllocError>
+pub fn build(
+    alloc: Global,
+    sigs: &[Signature],
+    values: &[u64],
+    width: u32,
+    method: Method,
+) -> Result<Built, AllocError>
     requires values { length values.now ≡ length sigs.now }
     requires few { length sigs.now ≤ 1024 }
     requires width { width ≡ 64 }
@@ -103,4 +107,72 @@ fn only_witness(alloc: Global, witness: Witness) -> Result<Vec<Witness>, AllocEr
     let mut witnesses = Vec::new(alloc);
     witnesses.push(witness)?;
     Ok(witnesses)
+}
+
+#[cfg(test)]
+mod tests {
+    use super::*;
+    use std::test::Fail;
+
+    const ZERO: Signature = Signature {
+        w0: 0,
+        w1: 0,
+        w2: 0,
+    };
+
+    #[test]
+    fn one_signature_has_its_value(rt: HostRuntime) -> Result<(), Fail> {
+        match build(rt.alloc(), &[ZERO], &[5], 64, Method::Mwhc)? {
+            Built::Done(function) => {
+                assert_eq!(rt; function.table.as_slice(), [0, 6].as_slice());
+                assert_eq!(rt; function.cells.len(), 6);
+                let cells = function.cells.as_slice();
+                assert_eq!(rt; cells[1] ^ cells[3] ^ cells[5], 5);
+            }
+            Built::Twins { .. } | Built::Stuck { .. } => assert!(rt; false, "not built"),
+        }
+        Ok(())
+    }
+
+    #[test]
+    fn four_edges_on_few_cells_are_stuck(rt: HostRuntime) -> Result<(), Fail> {
+        let sigs = [
+            ZERO,
+            Signature {
+                w0: 1,
+                w1: 0,
+                w2: 0,
+            },
+            Signature {
+                w0: 2,
+                w1: 0,
+                w2: 0,
+            },
+            Signature {
+                w0: 3,
+                w1: 0,
+                w2: 0,
+            },
+        ];
+        match build(rt.alloc(), &sigs, &[0, 1, 2, 3], 64, Method::Mwhc)? {
+            Built::Stuck { chunk, witnesses } => {
+                assert_eq!(rt; chunk, 0);
+                assert_eq!(rt; witnesses.len(), 1);
+            }
+            Built::Twins { .. } | Built::Done(_) => assert!(rt; false, "not stuck"),
+        }
+        Ok(())
+    }
+
+    #[test]
+    fn equal_signatures_are_twins(rt: HostRuntime) -> Result<(), Fail> {
+        match build(rt.alloc(), &[ZERO, ZERO], &[1, 2], 64, Method::Mwhc)? {
+            Built::Twins { first, second } => {
+                assert_eq!(rt; first, 0);
+                assert_eq!(rt; second, 1);
+            }
+            Built::Done(_) | Built::Stuck { .. } => assert!(rt; false, "no twins"),
+        }
+        Ok(())
+    }
 }

@@ -20,10 +20,8 @@ pub(crate) fn twins(sigs: &[Signature]) -> Option<(u32, u32)>
 
 /// The first place of the signature.
 fn place_of(sigs: &[Signature], sig: Signature) -> Option<usize>
-    ensures {
-        MatchOption result (¬ Contains sigs.now sig)
-            (λ i. (i < length sigs.now) × (slice_get sigs.now i ≡ Some sig) × ¬ Contains (take i sigs.now) sig)
-    }
+    ensures { MatchOption result (¬ Contains sigs.now sig)
+        (λ i. (i < length sigs.now) × (slice_get sigs.now i ≡ Some sig) × ¬ Contains (take i sigs.now) sig) }
 {
     for (place, other) in sigs.iter().enumerate() {
         if *other == sig {

@@ -1,11 +1,10 @@
-use Rattle.std.proofs.Common.{◌≡◌, ◌<◌, ◌*◌, ◌^◌, [], ◌∷◌, length, map, ℕ, List, arith, rules, sym, subst}
+use Rattle.std.proofs.Common.{◌≡◌, ◌<◌, ◌^◌, length, subst}
 use Rattle.std.proofs.lemmas.List.Elements.{recursion_from_All}
 use Rattle.sx_spec.specs.declared.Method.TheVariants.{Mwhc}
-use Rattle.sx_spec.specs.Chunks.{segment, places}
+use Rattle.sx_spec.specs.Chunks.{segment}
 use Rattle.sx_spec.specs.StaticFunction.{AllDiffer}
 use Rattle.sx_peel.specs.declared.Peeled.TheVariants.{Order, Core}
 use Rattle.sx_peel.specs.Peeling.{IsPeeled, taken_edges}
-use Rattle.sx_static.specs.Answer.{IsWitnessOf, witness_numbers}
 use Rattle.sx_static.proofs.OneChunk.{signatures_of_entries, done, stuck_here}
 use Rattle.sx_static.proofs.build.Goals as goal
 

@@ -1,4 +1,4 @@
-use Rattle.std.proofs.Common.{◌≡◌, ◌<◌, length, drop, ℕ, List, arith}
+use Rattle.std.proofs.Common.{◌≡◌, length, drop, arith}
 use Rattle.std.proofs.lemmas.List.{take_at}
 use Rattle.sx_static.proofs.Filling.{each_met}
 use Rattle.sx_static.proofs.cells.cells_of.Goals as goal

@@ -1,4 +1,4 @@
-use Rattle.std.proofs.Common.{◌≡◌, ◌+◌, ◌-◌, ◌<◌, ◌^◌, length, drop, get_or, subst, sym, arith}
+use Rattle.std.proofs.Common.{◌≡◌, ◌+◌, ◌-◌, drop, arith}
 use Rattle.sx_spec.specs.declared.Edge.{Edge}
 use Rattle.sx_peel.specs.declared.Taken.{Taken}
 use Rattle.sx_static.specs.Solving.{AreMet}
@@ -32,6 +32,6 @@ loop-place-preserved c =
     let later : AreMet edges values c.loop-place.cells (drop ((place - 1) + 1) order) = rw back c.loop-place.invariant.met in
     record {
       met = one_more_met edges values c.loop-place.cells c.settle.new.cells order (place - 1) none edge (omega arith) c.requires.order
-    c.settle.ensures.others c.settle.ensures.met later;
+          c.settle.ensures.others c.settle.ensures.met later;
       words = c.settle.ensures.words c.loop-place.invariant.words;
     }

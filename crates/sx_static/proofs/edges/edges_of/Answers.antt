@@ -1,4 +1,4 @@
-use Rattle.std.proofs.Common.{◌≡◌, ◌<◌, ◌*◌, ◌^◌, length, ℕ, List, get_or, arith}
+use Rattle.std.proofs.Common.{◌<◌, ◌*◌, ◌^◌, arith}
 use Rattle.std.proofs.lemmas.List.Elements.{All-push, All-more}
 use Rattle.sx_spec.specs.declared.Signature.{Signature}
 use Rattle.sx_peel.specs.Peeling.{IsEdgeWithin}
