@@ -1,14 +1,10 @@
 -- The number that words write, its digits, and what a change of one digit or one word does to it.
-use Rattle.std.proofs.Common.{◌≡◌, ℕ, zero, suc, ◌+◌, ◌-◌, ◌*◌, ◌/◌, ◌%◌, ◌^◌, ◌<◌, ◌≤◌, List, [], ◌∷◌, length, get_or, set, drop, refl, sym, ap, subst, ◌∙◌, arith, lit<, zero-add}
-use Rattle.std.specs.Prelude.{bit_xor, bit_or}
+use Rattle.std.proofs.Common.{◌≡◌, ℕ, zero, suc, ◌+◌, ◌*◌, ◌/◌, ◌%◌, ◌^◌, ◌<◌, List, [], ◌∷◌, length, get_or, set, drop, refl, sym, ap, subst, ◌∙◌, arith, lit<, zero-add}
 use Rattle.std.specs.List.{AllByRecursion}
-use Rattle.std.specs.Int.Bits.{xor_assoc, xor_self, xor_zero_r, xor_zero_l}
-use Rattle.std.proofs.lemmas.Nat.{pow-add, pow_pos, div-add-mod', div-mul-add, mod-mul-add, shr_below, shl_below, or_comm, or_shifted, xor_lt, xor_block, xor_mod, xor_shr, mod-pow-add}
-use Rattle.std.proofs.Math.Nat.{add-mul-mod_self_left, add-mul-div_left, mod-eq_of_lt, div-eq_of_lt, div-lt_iff_lt-mul, div-div-eq-div-mul, div-one, mod-lt, mul_comm, mul_assoc, mul-add, pow-succ', pow-zero, zero-div}
-use Rattle.std.proofs.Math.Pow.{pow_mono}
-use Rattle.sx_spec.specs.Fields.{words_number, fields}
-use Rattle.sx_spec_strings.specs.Numbers.{number_from, lowest_digits}
-use Rattle.sx_spec.proofs.Digits.{power_of_power}
+use Rattle.std.proofs.lemmas.Nat.{pow-add, div-add-mod', div-mul-add, mod-mul-add}
+use Rattle.std.proofs.Math.Nat.{add-mul-mod_self_left, add-mul-div_left, div-eq_of_lt, div-lt_iff_lt-mul, div-div-eq-div-mul, div-one, mul_comm, mul_assoc, pow-succ', pow-zero, zero-div}
+use Rattle.sx_spec.specs.Fields.{words_number}
+use Rattle.sx_spec_strings.specs.Numbers.{lowest_digits}
 
 -- words of 64 bits
 abbrev pub AreWords : List ℕ → Type 0

@@ -7,3 +7,5 @@ pub mod packed;
 pub mod packed_buf;
 mod place;
 pub mod section;
+#[cfg(test)]
+mod tests;

@@ -57,7 +57,7 @@ pub fn list_check(
     ensures found { result ≡ list_found least most low_width high_width words.now at }
     ensures section { IfOk result (λ s.
         section_of (list_of least most low_width high_width) (drop at words.now)
-            ≡ list_section s.width (fields s.width s.count (drop s.body words.now))) }
+        ≡ list_section s.width (fields s.width s.count (drop s.body words.now))) }
     ensures narrow { IfOk result (λ s. s.width ≤ 64) }
     ensures few { IfOk result (λ s. s.count < 2 ^ 32) }
     ensures body { IfOk result (λ s. s.body + words_for (s.count * s.width) ≡ s.after) }

@@ -1,4 +1,4 @@
-use Rattle.std.proofs.Common.{◌≡◌, ◌∙◌, ◌<◌, ◌≤◌, ◌^◌, ◌+◌, ◌-◌, ◌*◌, ◌/◌, ◌%◌, suc, ap, sym, arith, length, get_or, set, lit<, add-one}
+use Rattle.std.proofs.Common.{◌≡◌, ◌<◌, ◌^◌, ◌+◌, ◌-◌, ◌*◌, ◌/◌, ◌%◌, suc, arith, get_or, lit<}
 use Rattle.std.specs.Prelude.{bit_xor}
 use Rattle.std.proofs.lemmas.List.Elements.{recursion_from_All, All-set}
 use Rattle.std.proofs.lemmas.Nat.{xor_lt, mod_below, shr_le}

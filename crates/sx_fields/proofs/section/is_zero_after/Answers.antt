@@ -1,4 +1,4 @@
-use Rattle.std.proofs.Common.{◌%◌, ◌∙◌, sym, arith}
+use Rattle.std.proofs.Common.{◌%◌, ◌∙◌, sym}
 use Rattle.std.proofs.lemmas.Bool.{eq-eqb}
 use Rattle.sx_fields.proofs.Padding.{words_at, padding_none, padding_last}
 use Rattle.sx_fields.proofs.section.is_zero_after.Goals as goal

@@ -1,5 +1,5 @@
-use Rattle.std.proofs.Common.{◌≡◌, ◌<◌, ◌*◌, ◌+◌, ◌/◌, ◌%◌, ◌^◌, ◌-◌, ℕ, get_or, sym, ap, drop, length, ◌∙◌, arith}
-use Rattle.sx_fields.proofs.Places.{field_ends, bits_small, word_within, next_within, length-fields, field_empty, bank_inside, bank_across}
+use Rattle.std.proofs.Common.{◌≡◌, ◌*◌, ◌+◌, ◌/◌, ◌%◌, ◌^◌, ◌-◌, get_or, sym, drop, ◌∙◌, arith}
+use Rattle.sx_fields.proofs.Places.{bits_small, word_within, next_within, length-fields, field_empty, bank_inside, bank_across}
 use Rattle.sx_fields.proofs.packed.PackedFields.get.Goals as goal
 
 pub returns-then-self-eq0-clause-value : goal.returns-then-self-eq0-clause-value
@@ -36,7 +36,8 @@ returns-then-shift-self-le64-clause-value g c =
     let bank = g.B.WordBank.words_of p.bank in
     let size = length-fields p.width p.len (drop p.first bank) in
     let is = bank_inside bank p.first p.width p.len c.args.i p.small (omega arith) (omega arith) in
-    c.inside.ensures ∙ ap (λ w. w / 2 ^ (c.args.i * p.width % 64) % 2 ^ p.width) c.word-low.ensures.word ∙ is
+    let read : c.inside.result ≡ get_or bank (p.first + c.args.i * p.width / 64) 0 / 2 ^ (c.args.i * p.width % 64) % 2 ^ p.width = rw (← c.word-low.ensures.word) c.inside.ensures in
+    read ∙ is
 
 pub overflow_add-word-2 : goal.overflow_add-word-2
 overflow_add-word-2 g c =

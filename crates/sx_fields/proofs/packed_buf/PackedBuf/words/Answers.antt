@@ -1,4 +1,4 @@
-use Rattle.std.proofs.Common.{◌≡◌, ◌∙◌, ◌^◌, ◌<◌, sym, ap}
+use Rattle.std.proofs.Common.{◌∙◌, ◌^◌, ◌<◌, sym, ap}
 use Rattle.std.proofs.lemmas.List.Elements.{recursion_from_All}
 use Rattle.sx_spec.specs.Fields.{packed}
 use Rattle.sx_spec.proofs.Reading.{packed_again}

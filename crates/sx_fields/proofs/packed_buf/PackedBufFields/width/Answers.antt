@@ -1,4 +1,4 @@
-use Rattle.std.proofs.Common.{◌≡◌, ◌<◌, ◌^◌, All, ap, subst}
+use Rattle.std.proofs.Common.{◌<◌, ◌^◌, All, subst}
 use Rattle.sx_fields.specs.Numbers.{Numbers}
 use Rattle.sx_fields.proofs.Places.{fields_fit}
 use Rattle.sx_fields.proofs.packed_buf.PackedBufFields.width.Goals as goal

@@ -1,4 +1,4 @@
-use Rattle.std.proofs.Common.{◌≡◌, ◌∙◌, ◌<◌, ◌≤◌, ◌^◌, ◌+◌, ◌-◌, ◌*◌, ◌/◌, ◌%◌, ◌++◌, List, ℕ, All, ap, sym, subst, arith, length, set, take, drop, true}
+use Rattle.std.proofs.Common.{◌≡◌, ◌∙◌, ◌<◌, ◌^◌, ◌+◌, ◌*◌, ◌/◌, ◌%◌, ◌++◌, List, ℕ, ap, sym, subst, arith, length, set, take, drop, true}
 use Rattle.std.proofs.lemmas.Bool.{lt-ltb, ltb-true}
 use Rattle.std.proofs.lemmas.List.{take_at}
 use Rattle.sx_spec.specs.Fields.{words_number, words_for, fields, is_zero_after}
@@ -39,8 +39,7 @@ invariant_of-self c =
     let narrow = ap (λ n. n.width) c.self.view_is in
     let whole = held p.words.len p.words.items c.deref_mut.result.now new c.deref_mut.ensures.value p.words.ok.0 c.put.auto.words in
     let kept = kept_fields p.words.items c.deref_mut.result.now new p.width p.len c.args.i c.args.v c.deref_mut.ensures.value (omega (arith, c.requires.within)) (subst (λ n. c.args.v < 2 ^ n) (sym narrow) c.requires.fits) c.self.invariant.4 c.put.ensures.change in
-    let long : length new ≡ words_for (p.len * p.width) = c.put.auto.words ∙ ap length c.deref_mut.ensures.value ∙ c.self.invariant.2 in
-    (
+    let long : length new ≡ words_for (p.len * p.width) = c.put.auto.words ∙ ap length c.deref_mut.ensures.value ∙ c.self.invariant.2 in (
       c.self.invariant.0,
       c.self.invariant.1,
       rw whole long,
