@@ -5,3 +5,4 @@ pub mod Feeds
 pub mod Fills
 pub mod Readies
 pub mod LineLaws
+pub mod Parts

@@ -1,0 +1,6 @@
+//! Objects in memory that stand for the outside, and fail at the calls that they are told.
+pub mod calls;
+mod entries;
+mod entry;
+pub mod sink;
+pub mod source;
