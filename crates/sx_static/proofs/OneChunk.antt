@@ -1,5 +1,5 @@
 -- Where there are few pairs, all lie in one chunk.
-use Rattle.std.proofs.Common.{◌≡◌, ℕ, zero, suc, ◌-◌, ◌*◌, ◌/◌, ◌%◌, ◌^◌, ◌<◌, ◌≤◌, true, cond, List, [], ◌∷◌, length, map, refl, sym, ap, subst, ◌∙◌, arith, Some, None, Option, zero-add}
+use Rattle.std.proofs.Common.{◌≡◌, ℕ, zero, suc, ◌-◌, ◌*◌, ◌/◌, ◌%◌, ◌^◌, ◌<◌, ◌≤◌, true, cond, List, [], ◌∷◌, length, map, refl, sym, ap, subst, ◌∙◌, arith, Some, None, Option, zero-add, lit<}
 use Rattle.std.specs.Prelude.{◌==◌, nat_le, slice_get, filter, option_map, All}
 use Rattle.std.specs.List.{AllByRecursion, cons_option}
 use Rattle.std.proofs.lemmas.Bool.{le-leb}
@@ -13,7 +13,7 @@ use Rattle.sx_spec_strings.specs.Numbers.{binary_digits}
 use Rattle.sx_spec_strings.proofs.NumberLaws.{least_from_le}
 use Rattle.sx_spec.specs.Chunks.{chunk_size, chunk_bits, chunk_count, chunk_of, segment, places}
 use Rattle.sx_spec.specs.Layout.{table_chunks, table_words}
-use Rattle.sx_spec.specs.StaticFunction.{Entry, signatures, chunk_of_entry, chunk_entries, chunk_segment, entry_equation, equations, AllDiffer, IsStuck, IsBuiltFunction}
+use Rattle.sx_spec.specs.StaticFunction.{Chunk, Entry, signatures, chunk_of_entry, chunk_entries, chunk_segment, entry_equation, equations, AllDiffer, IsStuck, IsBuiltFunction}
 use Rattle.sx_spec.specs.Systems.{chosen, unknowns, Solves, IsPeelable, IsCore, HasNoLeaf}
 use Rattle.sx_spec.proofs.Counts.{chosen_all, all_at}
 use Rattle.sx_spec.proofs.Witnesses.{slice_get-map}
@@ -183,10 +183,11 @@ module _ (sigs : List Signature) (values : List ℕ) (s : ℕ) (edges : List Edg
   -- the function, its table and its cells
   pub done : (table cells : List ℕ) → table ≡ 0 ∷ 3 * s ∷ [] → IsPeelable edges → length cells ≡ 3 * s → ((i : ℕ) → i < length edges → IsMet edges values cells i)
       → IsBuiltFunction Mwhc 64 (entries_of sigs values) (record { width = 64; pairs = length sigs; chunks = table_chunks table; cells = cells })
-      × (table ≡ table_words 0 (table_chunks table))
+      × (table ≡ table_words 0 (table_chunks table)) × AllByRecursion (λ c. c.try < 1) (table_chunks table)
   done table cells is peelable size met =
       let narrow : s < 2 ^ 50 = narrow_segment (length sigs) s segment_of few in
       let chunks : table_chunks table ≡ record { segment = s; try = 0 } ∷ [] = ap table_chunks is ∙ one_chunk_table s narrow in (
         subst (λ cs. IsBuiltFunction Mwhc 64 (entries_of sigs values) (record { width = 64; pairs = length sigs; chunks = cs; cells = cells })) (sym chunks) (built cells peelable size met),
         is ∙ one_chunk_words s ∙ ap (table_words 0) (sym chunks),
+        subst (λ (cs : List Chunk). AllByRecursion (λ c. c.try < 1) cs) (sym chunks) (lit< tt, tt),
       )

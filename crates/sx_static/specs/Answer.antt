@@ -20,9 +20,10 @@ entries_of sigs values = zip sigs values
 abbrev pub function_of : FuncBuf → Function
 function_of f = record { width = f.width; pairs = f.pairs; chunks = table_chunks f.table.items; cells = f.cells.items }
 
--- the function is as it is built, its table is that of its chunks, and its cells have its width
-pub record IsDone (method : Method) (width : ℕ) (entries : List Entry) (f : FuncBuf) : Type 0 where
+-- the function is as it is built by one of so many tries, its table is that of its chunks, and its cells have its width
+pub record IsDone (method : Method) (tries width : ℕ) (entries : List Entry) (f : FuncBuf) : Type 0 where
   pub built : IsBuiltFunction method width entries (function_of f)
+  pub tried : AllByRecursion (λ c. c.try < tries) (function_of f).chunks
   pub table : f.table.items ≡ table_words 0 (function_of f).chunks
   pub cells : AllByRecursion (λ v. v < 2 ^ width) f.cells.items
 
@@ -40,7 +41,7 @@ IsWitnessOf Gov3 (Sum numbers) = ⊤
 
 -- this is what a build with so many tries answers
 abbrev pub IsAnswer : Method → ℕ → ℕ → List Entry → Built → Type 0
-IsAnswer method tries width entries (Done f) = IsDone method width entries f
+IsAnswer method tries width entries (Done f) = IsDone method tries width entries f
 IsAnswer method tries width entries (Twins first second) = IsCause method tries entries (twins first second)
 IsAnswer method tries width entries (Stuck chunk witnesses) =
     IsCause method tries entries (stuck chunk (map witness_numbers witnesses.items)) × AllByRecursion (IsWitnessOf method) witnesses.items

@@ -25,6 +25,7 @@ returns-in-Order c =
     (rw (← c.deref-in-Order.ensures.value) c.in_ok-cells-in-Order.ensures.met) in
     rw (c.requires.method, c.requires.width) (record {
       built = answer.0;
+      tried = answer.2;
       table = answer.1;
       cells = recursion_from_All (λ w. w < 2 ^ 64) cells c.in_ok-cells-in-Order.ensures.words;
     })
