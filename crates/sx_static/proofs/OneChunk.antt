@@ -55,18 +55,18 @@ solved_entries s cells (sig ∷ sigs) (v ∷ values) same met =
 
 -- ---- the one chunk
 
-one_chunk : (n : ℕ) → n ≤ 1024 → chunk_bits n ≡ 0
+pub one_chunk : (n : ℕ) → n ≤ 1024 → chunk_bits n ≡ 0
 one_chunk n few =
     let none = least_from_le (λ c. nat_le n (chunk_size * 2 ^ c)) (binary_digits n) 0 0 (omega arith) (le-leb n 1024 few) in
     omega arith
 
-in_chunk : (n : ℕ) → n ≤ 1024 → (sig : Signature) → sig.w0 < 2 ^ 64 → chunk_of sig (chunk_bits n) ≡ 0
+pub in_chunk : (n : ℕ) → n ≤ 1024 → (sig : Signature) → sig.w0 < 2 ^ 64 → chunk_of sig (chunk_bits n) ≡ 0
 in_chunk n few sig small = ap (chunk_of sig) (one_chunk n few) ∙ none
   where
     none : sig.w0 / 2 ^ 64 ≡ 0
     none = omega arith
 
-all_in_chunk : (n : ℕ) → n ≤ 1024 → (entries : List Entry) → AllByRecursion (λ e. e.0.w0 < 2 ^ 64) entries → filter (λ e. chunk_of_entry n e == 0) entries ≡ entries
+pub all_in_chunk : (n : ℕ) → n ≤ 1024 → (entries : List Entry) → AllByRecursion (λ e. e.0.w0 < 2 ^ 64) entries → filter (λ e. chunk_of_entry n e == 0) entries ≡ entries
 all_in_chunk n few [] small = refl
 all_in_chunk n few (e ∷ entries) small =
     let here : (chunk_of_entry n e == 0) ≡ true = (Decides-eqb (chunk_of_entry n e) 0).1 (in_chunk n few e.0 small.0) in

@@ -1,2 +1,3 @@
 pub mod Answer
 pub mod Solving
+pub mod Viewing

@@ -8,6 +8,7 @@ ghost use Rattle.sx_static.specs.Answer.{IsAnswer, entries_of};
 mod cells;
 mod edges;
 mod twins;
+mod view;
 
 use cells::cells_of;
 use edges::edges_of;
@@ -15,6 +16,7 @@ use std::alloc::{AllocError, Global};
 use sx_peel::{Edge, Peeled, peel};
 use sx_sig::segment;
 pub use sx_spec::{Method, Signature};
+pub use view::FuncView;
 use twins::twins;
 
 /// A function as it is built.
