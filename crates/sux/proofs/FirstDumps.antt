@@ -35,7 +35,9 @@ use Rattle.sx_spec.proofs.FuncDumps.{func_dumps_pass}
 use Rattle.sx_spec.proofs.Replies.{built_dumps_answer_members}
 use Rattle.sx_spec.proofs.Sections.{both_true, is_same}
 use Rattle.sx_spec.proofs.Words.{words_again, length-words_bytes, words_are_their_bytes}
+use Rattle.sux.specs.FirstBuild.{first_parts}
 use Rattle.sux.specs.FirstDump.{first_function, first_dump}
+use Rattle.sux.specs.Preparing.{key_signature}
 
 -- ---- numbers
 
@@ -186,14 +188,6 @@ zip_signed f (x ∷ xs) (y ∷ ys) = ap (λ l. (f x, y) ∷ l) (zip_signed f xs 
 map_map : {A B C : Type 0} (f : B → C) (g : A → B) (xs : List A) → map f (map g xs) ≡ map (λ x. f (g x)) xs
 map_map f g [] = refl
 map_map f g (x ∷ xs) = ap (λ l. f (g x) ∷ l) (map_map f g xs)
-
--- the signature of a key
-abbrev pub key_signature : Text → Signature
-key_signature line = signature 0 192 (key_bits line)
-
--- the parts of the first path
-abbrev pub first_parts : List Text → List Part
-first_parts keys = parts_of (default_plan Func) 64 keys (plain_values (length keys))
 
 -- the entries of the one part
 pub first_entries : (keys : List Text) → part_entries 192 0 (values_part 64 (map key_bits keys) (plain_values (length keys))) ≡ zip (map key_signature keys) (plain_values (length keys))

@@ -9,4 +9,5 @@ pub mod Builds
 pub mod Queries
 pub mod LittleEndian
 pub mod Readings
+pub mod Prepares
 pub mod Shelves

@@ -4,5 +4,6 @@ pub mod KeyLines
 pub mod Writing
 pub mod Telling
 pub mod Progress
+pub mod Preparing
 pub mod KeyReading
 pub mod Served

@@ -2,6 +2,7 @@
 #![tactic(auto)]
 
 
+mod build;
 mod dump;
 mod keys;
 mod messages;

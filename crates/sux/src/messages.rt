@@ -98,13 +98,16 @@ pub fn unknown_form_message() -> [u8; 24]
 }
 
 /// The line on what was built.
-pub fn built_text(alloc: Global, keys: u64, words: u64) -> Result<Vec<u8>, AllocError>
-    ensures { IfOk result (λ text. text.items ≡ codes "keys " ++ decimal keys ++ codes " seed 0 words " ++ decimal words ++ 10 ∷ []) }
+pub fn built_text(alloc: Global, keys: u64, seed: u64, words: u64) -> Result<Vec<u8>, AllocError>
+    ensures { IfOk result (λ text. text.items
+        ≡ codes "keys " ++ decimal keys ++ codes " seed " ++ decimal seed ++ codes " words " ++ decimal words ++ 10 ∷ []) }
 {
     let mut number = Buffer::new();
     let mut text = Vec::from_slice(alloc, b"keys ")?;
     text.extend_from_slice(number.format(keys).as_bytes())?;
-    text.extend_from_slice(b" seed 0 words ")?;
+    text.extend_from_slice(b" seed ")?;
+    text.extend_from_slice(number.format(seed).as_bytes())?;
+    text.extend_from_slice(b" words ")?;
     text.extend_from_slice(number.format(words).as_bytes())?;
     text.extend_from_slice(b"\n")?;
     Ok(text)
