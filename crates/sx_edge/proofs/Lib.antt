@@ -6,3 +6,4 @@ pub mod Fills
 pub mod Readies
 pub mod LineLaws
 pub mod Parts
+pub mod EntryLaws

@@ -2,5 +2,7 @@
 pub mod calls;
 mod entries;
 mod entry;
+mod in_use;
+pub mod shelf;
 pub mod sink;
 pub mod source;

@@ -1,5 +1,6 @@
 //! The calls of an object in memory, some of which fail.
-ghost use Rattle.std.specs.Prelude.{◌≡◌, ◌+◌, ◌-◌, ◌^◌, min, is_err};
+ghost use Rattle.std.specs.Prelude.{◌≡◌, ◌+◌, ◌-◌, ◌^◌, ◌≤◌, min, is_err};
+ghost use Rattle.sx_spec.specs.Causes.{HasCause, Rose};
 ghost use Rattle.sx_edge.specs.Calls.{called, failed_more, is_due};
 
 use crate::source::Failed;
@@ -37,6 +38,7 @@ impl Calls {
     pub fn make(&mut self) -> Result<(), Failed>
         ensures exact { is_err result ≡ is_due self.old }
         ensures after { self.new ≡ called self.old }
+        ensures cause { HasCause self.old.faults self.new.faults result }
     {
         self.made = self.made.saturating_add(1);
         if self.fails.contains(&self.made) {
@@ -47,7 +49,9 @@ impl Calls {
 
     /// Counts one more fault.
     pub fn fail(&mut self) -> Failed
-        ensures { self.new ≡ failed_more self.old }
+        ensures more { self.new ≡ failed_more self.old }
+        ensures later { self.old.faults ≤ self.new.faults }
+        ensures rose { Rose self.old.faults self.new.faults }
     {
         self.faults = self.faults.saturating_add(1);
         Failed

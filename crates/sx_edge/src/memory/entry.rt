@@ -55,7 +55,7 @@ impl Entry {
 
     /// Makes room for so many bytes. After a refusal all is as it was.
     pub(crate) fn grow(&mut self, size: usize) -> Result<(), AllocError>
-        ensures name { self.new.name ≡ self.old.name }
+        ensures name { self.new.name.items ≡ self.old.name.items }
         ensures there { self.new.there ≡ self.old.there }
         ensures bytes { bytes_in self.new ≡ bytes_in self.old }
         ensures room { OnOk result (room_in self.new ≡ max (room_in self.old) size) }
@@ -69,7 +69,7 @@ impl Entry {
 
     /// Makes the file empty, also where none was there.
     pub(crate) fn clear(&mut self)
-        ensures name { self.new.name ≡ self.old.name }
+        ensures name { self.new.name.items ≡ self.old.name.items }
         ensures there { self.new.there ≡ true }
         ensures bytes { bytes_in self.new ≡ [] }
         ensures room { room_in self.new ≡ room_in self.old }
@@ -82,7 +82,7 @@ impl Entry {
     /// number.
     pub(crate) fn append(&mut self, bytes: &[u8]) -> usize
         ensures count { result ≡ min (length bytes.now) (room_in self.old - length (bytes_in self.old)) }
-        ensures name { self.new.name ≡ self.old.name }
+        ensures name { self.new.name.items ≡ self.old.name.items }
         ensures there { self.new.there ≡ self.old.there }
         ensures bytes { bytes_in self.new ≡ bytes_in self.old ++ take result bytes.now }
         ensures room { room_in self.new ≡ room_in self.old }
