@@ -6,3 +6,7 @@ pub mod line;
 pub mod shelf;
 pub mod sink;
 pub mod source;
+pub mod words;
+
+#[cfg(test)]
+mod tests;

@@ -1,5 +1,7 @@
 //! Objects in memory that stand for the outside, and fail at the calls that they are told.
 pub mod calls;
+pub mod calm;
+mod copies;
 mod entries;
 mod entry;
 mod in_use;

@@ -6,6 +6,7 @@ ghost use Rattle.sx_edge.specs.Shelf.{AppendsFile};
 ghost use Rattle.sx_edge.specs.Entries.{files_of, room_of, place_named};
 ghost use Rattle.sx_edge.specs.InUse.{is_placed, rest_of, name_of, room_left};
 
+use crate::memory::copies::copy_front;
 use crate::memory::entry::Entry;
 use crate::memory::in_use::InUse;
 use std::alloc::{AllocError, Global};
@@ -118,16 +119,4 @@ pub(crate) fn append_entry(entries: &mut Vec<Entry>, file: usize, bytes: &[u8]) 
 {
     let entry = &mut entries[file];
     entry.append(bytes)
-}
-
-// Copies the bytes from the place on to the front of the buffer, as many as both have, and gives
-// their number.
-fn copy_front(bytes: &[u8], at: usize, buf: &mut [u8]) -> usize
-    requires { at ≤ length bytes.now }
-    ensures count { result ≡ min (length bytes.now - at) (length buf.old) }
-    ensures bytes { drop at bytes.now ≡ take result buf.new ++ drop (at + result) bytes.now }
-{
-    let count = (bytes.len() - at).min(buf.len());
-    buf[..count].copy_from_slice(&bytes[at..at + count]);
-    count
 }

@@ -1,7 +1,7 @@
 //! The files of a shelf in memory.
 ghost use Rattle.std.specs.Prelude.{◌≡◌, ◌≤◌, ◌+◌, ◌-◌, ◌++◌, [], true, false, length, take, min, max, IfOk, OnOk, OnErr};
 
-use crate::memory::sink::put_behind;
+use crate::memory::copies::put_behind;
 use std::alloc::{AllocError, Global};
 
 /// A name with room for bytes, and the bytes of the file where there is one.

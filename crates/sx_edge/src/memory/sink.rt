@@ -5,6 +5,7 @@ ghost use Rattle.sx_spec.specs.Causes.{HasCause};
 ghost use Rattle.sx_edge.specs.Calls.{called, is_due};
 
 use crate::memory::calls::Calls;
+use crate::memory::copies::put_behind;
 use crate::sink::Sink;
 use crate::source::Failed;
 use std::alloc::{AllocError, Global};
@@ -87,12 +88,4 @@ impl Sink for MemSink {
         self.len += count;
         Ok(count)
     }
-}
-
-// Writes the bytes behind the first `len` of the buffer.
-pub(crate) fn put_behind(buf: &mut [u8], len: usize, bytes: &[u8])
-    requires { len + length bytes.now ≤ length buf.old }
-    ensures { take (len + length bytes.now) buf.new ≡ take len buf.old ++ bytes.now }
-{
-    buf[len..len + bytes.len()].copy_from_slice(bytes);
 }
