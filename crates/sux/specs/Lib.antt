@@ -4,6 +4,7 @@ pub mod KeyLines
 pub mod Writing
 pub mod Telling
 pub mod Progress
+pub mod Storing
 pub mod Preparing
 pub mod KeyReading
 pub mod Served

@@ -4,8 +4,8 @@ use Rattle.sx_spec.specs.declared.Signature.{Signature}
 use Rattle.sx_spec.specs.Command.{Text}
 use Rattle.sx_spec.specs.Signature.{signature}
 use Rattle.sx_spec_strings.specs.Bits.{key_bits}
-use Rattle.sux.specs.declared.build.Prepared.{Prepared}
-use Rattle.sux.specs.declared.build.Prepared.TheVariants.{Dump, SeedFails as NoSeed}
+use Rattle.sux.specs.declared.prepare.Prepared.{Prepared}
+use Rattle.sux.specs.declared.prepare.Prepared.TheVariants.{Dump, SeedFails as NoSeed}
 use Rattle.sux.specs.FirstBuild.{IsReady, SeedFails}
 
 -- the signature of a key

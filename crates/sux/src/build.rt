@@ -1,118 +1,87 @@
-//! A dump of keys, ready to be written.
-ghost use Rattle.std.specs.Prelude.{◌≡◌, ◌++◌, ◌≤◌, ◌*◌, IfOk, length, map};
-ghost use Rattle.sx_spec.specs.Chunks.{segment as segment_of};
-ghost use Rattle.sx_spec.specs.FirstPath.{first_front, first_limits};
-ghost use Rattle.sx_spec.specs.Keys.{AreKeys};
-ghost use Rattle.sx_spec.specs.Layout.{words_bytes};
-ghost use Rattle.sx_spec.specs.Values.{plain_values};
-ghost use Rattle.sx_spec.specs.declared.Method.TheVariants.{Mwhc};
-ghost use Rattle.sux.specs.Preparing.{key_signature, IsPrepared};
+//! The command `build`.
+ghost use Rattle.std.specs.Prelude.{◌≡◌, ◌≤◌, ◌⊎◌, ℕ};
+ghost use Rattle.sx_edge.specs.Shelf.{idle};
+ghost use Rattle.sx_spec.specs.declared.Status.TheVariants.{BadInput, Memory};
+ghost use Rattle.sx_spec.specs.Command.{build as build_of};
+ghost use Rattle.sx_spec.specs.FirstPath.{first_path, first_key_text};
+ghost use Rattle.sx_spec.specs.Messages.{memory_text};
+ghost use Rattle.sx_spec.specs.Run.{Promise};
+ghost use Rattle.sx_spec.specs.World.{world};
+ghost use Rattle.sux.specs.FirstBuild.{first_task};
+ghost use Rattle.sux.specs.KeyLines.{fault_of};
+ghost use Rattle.sux.specs.Storing.{Stores};
+ghost use Rattle.sux.specs.Telling.{Tells};
 
-use crate::messages::built_text;
-use crate::words::put_words;
-use std::alloc::{AllocError, Global};
-use sx_bits::KeyList;
-use sx_sig::{Method, Signature, segment, sign};
-use sx_static::{Built, build as build_function};
+use crate::dump::write_dump;
+use crate::keys::{KeysStop, read_keys};
+use crate::messages::{KeyReason, key_text, memory_message, seeds_message};
+use crate::prepare::{Prepared, prepare};
+use crate::telling::tell;
+use std::alloc::Global;
+use sx_edge::shelf::Shelf;
+use sx_edge::sink::{Sink, write_all};
+use sx_edge::source::Source;
+use sx_spec::Status;
 
-/// The seed of the first path.
-const SEED: u64 = 0;
-
-/// How many bits of a digest are kept.
-const SIG_BITS: u32 = 192;
-
-/// How many bits a value has: cells are whole words so far.
-const WIDTH: u32 = 64;
-
-/// The first word of a dump: the bytes `SUXDUMP1`.
-const MAGIC: u64 = 0x3150_4D55_4458_5553;
-
-/// What keys come to.
-#[derive(Debug, Drop)]
-pub enum Prepared {
-    /// The bytes of the dump, and the line on it.
-    Dump { bytes: Vec<u8>, line: Vec<u8> },
-    /// The seed doesn't work.
-    SeedFails,
-}
-
-/// The signature of each key.
-fn sign_keys(alloc: Global, keys: &KeyList) -> Result<Vec<Signature>, AllocError>
-    ensures { IfOk result (λ sigs. sigs.items ≡ map key_signature keys.now.lines) }
+/// Tells why a line is no key.
+fn refuse_key<E: Sink>(alloc: Global, err: &mut E, line: u64, reason: KeyReason) -> Status
+    ensures told {
+        Tells (first_key_text (fault_of line reason)) BadInput (E.written err.old) (E.written err.new) (E.faults err.old) (E.faults err.new) result
+        ⊎ Tells memory_text Memory (E.written err.old) (E.written err.new) (E.faults err.old) (E.faults err.new) result }
+    ensures later { E.faults err.old ≤ E.faults err.new }
 {
-    let count = keys.len();
-    let mut sigs = Vec::with_capacity(alloc, count as usize)?;
-    for i in 0..count {
-        sigs.push(sign(SEED, &keys.view(i), None, SIG_BITS))?;
+    match key_text(alloc, line, reason) {
+        Ok(text) => tell(err, &text, Status::BadInput),
+        Err(_) => tell(err, &memory_message(), Status::Memory),
     }
-    Ok(sigs)
 }
 
-/// The numbers from 0 up to before `count`.
-fn ranks(alloc: Global, count: u32) -> Result<Vec<u64>, AllocError>
-    ensures { IfOk result (λ values. values.items ≡ plain_values count) }
+/// Writes the dump to its file, and then the line on it to out.
+fn store<F: Shelf, O: Sink>(name: &str, bytes: &[u8], line: &[u8], files: &mut F, out: &mut O) -> Status
+    requires { F.in_use files.old ≡ idle }
+    ensures stored { Stores name.now bytes.now line.now
+        (record { files = F.files files.old; out = O.written out.old; shelf_faults = F.faults files.old; out_faults = O.faults out.old })
+        (record { files = F.files files.new; out = O.written out.new; shelf_faults = F.faults files.new; out_faults = O.faults out.new })
+        result }
+    ensures closed { F.in_use files.new ≡ idle }
+    ensures later { F.faults files.old ≤ F.faults files.new }
+    ensures later_out { O.faults out.old ≤ O.faults out.new }
 {
-    let mut values = Vec::with_capacity(alloc, count as usize)?;
-    for i in 0..count {
-        values.push(u64::from(i))?;
+    match write_dump(files, name, bytes) {
+        Ok(()) => match write_all(out, line) {
+            Ok(()) => Status::Done,
+            Err(_) => Status::Fault,
+        },
+        Err(_) => Status::Fault,
     }
-    Ok(values)
 }
 
-/// The words of a dump before its cells: the header, the function's width and pairs, its table.
-fn front_words(keys: u32) -> [u64; 14]
-    requires { keys ≤ 1024 }
-    ensures { result ≡ first_front keys }
+/// Reads keys from input and writes the dump of the static function that gives each its number,
+/// then a line on it to out.
+pub fn build<F: Shelf, S: Source, O: Sink, E: Sink>(
+    alloc: Global,
+    name: &str,
+    files: &mut F,
+    input: &mut S,
+    out: &mut O,
+    err: &mut E,
+) -> Status
+    requires { F.in_use files.old ≡ idle }
+    ensures promise { (ticks : ℕ) → Promise first_path (build_of (first_task name.now))
+        (world (F.files files.old) (S.left input.old) (O.written out.old) (E.written err.old) (F.faults files.old) (S.faults input.old) (O.faults out.old) (E.faults err.old))
+        (world (F.files files.new) (S.left input.new) (O.written out.new) (E.written err.new) (F.faults files.new) (S.faults input.new) (O.faults out.new) (E.faults err.new))
+        ticks result }
+    ensures closed { F.in_use files.new ≡ idle }
 {
-    let cells = 3 * u64::from(segment(Method::Mwhc, keys));
-    let keys = u64::from(keys);
-    let width = u64::from(WIDTH);
-    let sig_bits = u64::from(SIG_BITS);
-    [
-        MAGIC,
-        14 + cells,
-        0,
-        0,
-        keys,
-        SEED,
-        sig_bits,
-        0,
-        0,
-        0,
-        width,
-        keys,
-        0,
-        cells,
-    ]
-}
-
-/// The bytes of a dump of so many keys with these cells.
-fn dump_bytes(alloc: Global, keys: u32, cells: &[u64]) -> Result<Vec<u8>, AllocError>
-    requires { keys ≤ 1024 }
-    ensures { IfOk result (λ bytes. bytes.items ≡ words_bytes (first_front keys ++ cells.now)) }
-{
-    let mut bytes = Vec::new(alloc);
-    put_words(&mut bytes, &front_words(keys))?;
-    put_words(&mut bytes, cells)?;
-    Ok(bytes)
-}
-
-/// The dump of the keys, ready to be written, or that the seed doesn't work for them.
-pub fn prepare(alloc: Global, keys: &KeyList) -> Result<Prepared, AllocError>
-    requires { keys.now.limits ≡ first_limits }
-    ensures { IfOk result (IsPrepared keys.now.lines) }
-{
-    let count = keys.len();
-    let sigs = sign_keys(alloc, keys)?;
-    let values = ranks(alloc, count)?;
-    match build_function(alloc, &sigs, &values, WIDTH, Method::Mwhc)? {
-        Built::Done(function) => {
-            let bytes = dump_bytes(alloc, count, &function.cells)?;
-            let words = 14 + 3 * u64::from(segment(Method::Mwhc, count));
-            let line = built_text(alloc, u64::from(count), SEED, words)?;
-            Ok(Prepared::Dump { bytes, line })
-        }
-        Built::Twins { .. } => Ok(Prepared::SeedFails),
-        Built::Stuck { .. } => Ok(Prepared::SeedFails),
+    let keys = match read_keys(alloc, input) {
+        Ok(keys) => keys,
+        Err(KeysStop::Refused { line, reason }) => return refuse_key(alloc, err, line, reason),
+        Err(KeysStop::Failed) => return Status::Fault,
+        Err(KeysStop::Memory) => return tell(err, &memory_message(), Status::Memory),
+    };
+    match prepare(alloc, &keys) {
+        Ok(Prepared::Dump { bytes, line }) => store(name, &bytes, &line, files, out),
+        Ok(Prepared::SeedFails) => tell(err, &seeds_message(), Status::SeedsFailed),
+        Err(_) => tell(err, &memory_message(), Status::Memory),
     }
 }

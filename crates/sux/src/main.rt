@@ -3,6 +3,7 @@
 
 
 mod build;
+mod prepare;
 mod dump;
 mod keys;
 mod messages;

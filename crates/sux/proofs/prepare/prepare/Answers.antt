@@ -16,7 +16,7 @@ use Rattle.sx_static.specs.declared.Built.TheVariants.{Done, Twins, Stuck}
 use Rattle.sx_static.specs.Answer.{IsAnswer, IsDone, entries_of, witness_numbers}
 use Rattle.sux.specs.Preparing.{key_signature}
 use Rattle.sux.proofs.Prepares.{ready, refuted}
-use Rattle.sux.proofs.build.prepare.Goals as goal
+use Rattle.sux.proofs.prepare.prepare.Goals as goal
 
 pub build-requires-clause-values : goal.build-requires-clause-values
 build-requires-clause-values c =

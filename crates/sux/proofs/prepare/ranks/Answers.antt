@@ -1,7 +1,7 @@
 use Rattle.std.proofs.Common.{◌≡◌, ◌+◌, sym, ap, ◌∙◌, arith, ℕ, List, ◌++◌, ◌∷◌, []}
 use Rattle.sx_spec.specs.Values.{plain_values}
 use Rattle.sux.proofs.Prepares.{range-push}
-use Rattle.sux.proofs.build.ranks.Goals as goal
+use Rattle.sux.proofs.prepare.ranks.Goals as goal
 
 pub loop-i-preserved : goal.loop-i-preserved
 loop-i-preserved c =
