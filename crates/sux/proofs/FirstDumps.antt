@@ -36,7 +36,7 @@ use Rattle.sx_spec.proofs.Replies.{built_dumps_answer_members}
 use Rattle.sx_spec.proofs.Sections.{both_true, is_same}
 use Rattle.sx_spec.proofs.Words.{words_again, length-words_bytes, words_are_their_bytes}
 use Rattle.sux.specs.FirstBuild.{first_parts}
-use Rattle.sux.specs.FirstDump.{first_function, first_dump}
+use Rattle.sux.specs.FirstDump.{first_function, first_dump, first_unknown, is_first}
 use Rattle.sux.specs.Preparing.{key_signature}
 
 -- ---- numbers
@@ -56,7 +56,7 @@ packed_words cells small =
     let count : words_for (length cells * 64) ≡ length cells = omega arith in
     rw count (digits_of_number (2 ^ 64) (lit< tt) cells small)
 
-segment_small : (pairs : ℕ) → pairs ≤ 1024 → 3 * segment Mwhc pairs ≤ 1266
+pub segment_small : (pairs : ℕ) → pairs ≤ 1024 → 3 * segment Mwhc pairs ≤ 1263
 segment_small zero few = omega arith
 segment_small (suc n) few = omega arith
 
@@ -69,16 +69,6 @@ append_none (x ∷ xs) = λ i. x ∷ append_none xs i
 -- the words after the first two
 abbrev body : (keys last : ℕ) → List ℕ → List ℕ
 body keys last cells = 0 ∷ 0 ∷ keys ∷ 0 ∷ 192 ∷ 0 ∷ 0 ∷ 0 ∷ 64 ∷ keys ∷ 0 ∷ last ∷ cells
-
--- the test of the first path, of a file's words and its size
-abbrev pub is_first : List ℕ → ℕ → Bool
-is_first words size =
-    let keys = slice_index words 4 in
-    nat_le keys chunk_size && (size == 8 * first_size keys && bytes_eq (take 14 words) (first_front keys))
-
--- what is told of a file of another form
-abbrev pub unknown_form : Text
-unknown_form = message (codes "dump: unknown form" ∷ [])
 
 module _ (keys : ℕ) (cells : List ℕ) (few : keys ≤ 1024) (count : length cells ≡ 3 * segment Mwhc keys) (small : AllByRecursion (λ v. v < 2 ^ 64) cells) where
   pub first_layout : layout (first_dump keys cells) ≡ first_front keys ++ cells
@@ -103,7 +93,7 @@ module _ (keys : ℕ) (cells : List ℕ) (few : keys ≤ 1024) (count : length c
   pub first_bytes : dump_bytes (first_dump keys cells) ≡ words_bytes (first_front keys ++ cells)
   first_bytes = ap words_bytes first_layout
 
-  bytes_length : length (dump_bytes (first_dump keys cells)) ≡ 8 * first_size keys
+  pub bytes_length : length (dump_bytes (first_dump keys cells)) ≡ 8 * first_size keys
   bytes_length = ap length first_bytes ∙ length-words_bytes (first_front keys ++ cells) ∙ ap (λ n. 8 * n) first_length
 
   pub first_passes : Passes (first_dump keys cells)
@@ -134,7 +124,7 @@ module _ (keys : ℕ) (cells : List ℕ) (few : keys ≤ 1024) (count : length c
       let here : is_first (first_front keys ++ cells) (8 * first_size keys) ≡ true =
           both_true (nat_le keys chunk_size) _ (le-leb keys chunk_size few) (both_true (8 * first_size keys == 8 * first_size keys) _ (is_same _ _ refl) same) in
       let there : is_first_dump (dump_bytes (first_dump keys cells)) ≡ true = ap (λ (ws : List ℕ). is_first ws (length (dump_bytes (first_dump keys cells)))) words_are ∙ ap (is_first (first_front keys ++ cells)) bytes_length ∙ here in
-      ap (λ b. if b then None else Some unknown_form) there
+      ap (λ b. if b then None else Some first_unknown) there
 
 -- ---- a file that the first path takes
 

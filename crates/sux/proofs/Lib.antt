@@ -10,4 +10,5 @@ pub mod Queries
 pub mod LittleEndian
 pub mod Readings
 pub mod Prepares
+pub mod Opens
 pub mod Shelves

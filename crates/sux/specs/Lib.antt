@@ -4,6 +4,8 @@ pub mod KeyLines
 pub mod Writing
 pub mod Telling
 pub mod Progress
+pub mod Opening
+pub mod FirstCommand
 pub mod Storing
 pub mod Preparing
 pub mod KeyReading

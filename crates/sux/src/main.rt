@@ -3,7 +3,9 @@
 
 
 mod build;
+mod open;
 mod prepare;
+mod command;
 mod dump;
 mod keys;
 mod messages;

@@ -60,7 +60,7 @@ fn ranks(alloc: Global, count: u32) -> Result<Vec<u64>, AllocError>
 }
 
 /// The words of a dump before its cells: the header, the function's width and pairs, its table.
-fn front_words(keys: u32) -> [u64; 14]
+pub fn front_words(keys: u32) -> [u64; 14]
     requires { keys ≤ 1024 }
     ensures { result ≡ first_front keys }
 {

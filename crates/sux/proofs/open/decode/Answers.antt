@@ -1,0 +1,29 @@
+use Rattle.std.proofs.Common.{◌≡◌, ◌<◌, ◌^◌, ◌*◌, ℕ, true, List, ◌++◌, length, drop, get_or, sym, ap, subst, ◌∙◌, arith, refl}
+use Rattle.std.specs.Prelude.{slice_index}
+use Rattle.std.proofs.lemmas.List.{get_or_read}
+use Rattle.sx_spec.specs.FirstPath.{is_first_dump}
+use Rattle.sx_spec.specs.Layout.{bytes_words, dump_bytes}
+use Rattle.sux.specs.FirstDump.{first_dump, is_first}
+use Rattle.sux.specs.Opening.{AreDumpWords}
+use Rattle.sux.proofs.FirstDumps.{IsFirst, first_file}
+use Rattle.sux.proofs.Opens.{long_words}
+use Rattle.sux.proofs.open.decode.Goals as goal
+
+decoded : (bytes words : List ℕ) (keys : ℕ) → words ≡ bytes_words bytes → keys ≡ slice_index words 4 → ((i : ℕ) → get_or bytes i 0 < 256) → ((i : ℕ) → slice_index words i < 2 ^ 64) → is_first words (length bytes) ≡ true
+    → (w : AreDumpWords keys words) × (bytes ≡ dump_bytes (first_dump keys w.cells))
+decoded bytes words keys are at byte word is =
+    let word_there : (i : ℕ) → get_or (bytes_words bytes) i 0 < 2 ^ 64 = subst (λ (ws : List ℕ). (i : ℕ) → get_or ws i 0 < 2 ^ 64) are word in
+    let is_there : is_first (bytes_words bytes) (length bytes) ≡ true = subst (λ (ws : List ℕ). is_first ws (length bytes) ≡ true) are is in
+    let whole = first_file bytes byte word_there is_there in
+    let same : slice_index (bytes_words bytes) 4 ≡ keys = sym (at ∙ ap (λ (ws : List ℕ). slice_index ws 4) are) in
+    let P : ℕ → Type 0 = λ k. (w : AreDumpWords k words) × (bytes ≡ dump_bytes (first_dump k w.cells)) in
+    subst P same (record { cells = drop 14 (bytes_words bytes); are = are ∙ whole.words; few = whole.few; count = whole.count; small = whole.small }, whole.is)
+
+pub returns-then-is_first_dump : goal.returns-then-is_first_dump
+returns-then-is_first_dump c =
+    let same = c.deref.ensures.value in
+    let test : is_first c.in_ok-words.words.items (length c.args.bytes.now) ≡ true = subst (λ (ws : List ℕ). is_first ws (length c.args.bytes.now) ≡ true) same (sym c.is_first_dump.ensures.value ∙ c.if-is_first_dump.true) in
+    let long : 4 < length c.in_ok-words.words.items = omega (arith, long_words c.in_ok-words.words.items (length c.args.bytes.now) test) in
+    decoded c.args.bytes.now c.in_ok-words.words.items c.index.result.now c.in_ok-words.ensures (get_or_read c.in_ok-words.words.items _ _ long c.index.ensures 0) (λ i. omega (arith, c.type_inv.bytes i))
+    (subst (λ (ws : List ℕ). (i : ℕ) → slice_index ws i < 2 ^ 64) same c.is_first_dump.ensures.small)
+    test
