@@ -10,6 +10,7 @@ mod dump;
 mod keys;
 mod messages;
 mod telling;
+mod text_buffer;
 mod words;
 
 fn main() {}
