@@ -11,4 +11,5 @@ pub mod LittleEndian
 pub mod Readings
 pub mod Prepares
 pub mod Opens
+pub mod Serves
 pub mod Shelves

@@ -14,7 +14,7 @@ use Rattle.sx_edge.specs.Shelf.{Opens, ReadsFile}
 use Rattle.sux.specs.declared.open.Opened.{Opened}
 use Rattle.sux.specs.declared.open.Opened.TheVariants.{Dump, NoFile, UnknownForm}
 use Rattle.sux.specs.FirstDump.{first_dump, is_first}
-use Rattle.sux.specs.Opening.{AreDumpWords, IsDecoded, IsOpened}
+use Rattle.sux.specs.Opening.{AreDumpWords, cells_in, IsDecoded, IsOpened}
 use Rattle.sux.proofs.FirstDumps.{first_length, segment_small, bytes_length}
 
 -- a file of more bytes than the largest dump is none
@@ -40,7 +40,7 @@ of_whole bytes fs name UnknownForm at d = rw at d
 -- what was cut off is of no use to a dump
 of_part : (part all : List ℕ) (fs : Files) (name : Text) (o : Opened) → fs name ≡ Some all → 10216 < length part → 10216 < length all → IsDecoded part o → IsOpened name (Some fs) o
 of_part part all fs name (Dump keys words) at long all_long d =
-    let size = bytes_length keys d.0.cells d.0.few d.0.count d.0.small in
+    let size = bytes_length keys (cells_in words.items) d.0.few d.0.count d.0.small in
     let small = segment_small keys d.0.few in
     let same : length part ≡ 8 * first_size keys = ap (λ (b : List ℕ). length b) d.1 ∙ size in
     absurd (omega arith)

@@ -4,6 +4,7 @@ pub mod KeyLines
 pub mod Writing
 pub mod Telling
 pub mod Progress
+pub mod Serving
 pub mod Opening
 pub mod FirstCommand
 pub mod Storing

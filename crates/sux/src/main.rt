@@ -9,6 +9,7 @@ mod command;
 mod dump;
 mod keys;
 mod messages;
+mod serve;
 mod telling;
 mod text_buffer;
 mod words;

@@ -51,6 +51,7 @@ impl<B: WordBank + Copy> FuncView<B> {
     #[inline(always)]
     pub fn answer<L: Ledger>(&self, sig: &Signature, steps: &mut Steps<L>) -> u64
         ensures value { result ≡ value_of (one_chunk_function (B.words_of self.now.bank) self.now.first self.now.pairs) sig.now }
+        ensures counted { steps.old ≤ steps.new }
         ensures cost { steps.new ≤ steps.old + 8 }
     {
         let cells = self.bank.word(self.first + 1, steps);

@@ -4,20 +4,21 @@ use Rattle.std.proofs.lemmas.List.{get_or_read}
 use Rattle.sx_spec.specs.FirstPath.{is_first_dump}
 use Rattle.sx_spec.specs.Layout.{bytes_words, dump_bytes}
 use Rattle.sux.specs.FirstDump.{first_dump, is_first}
-use Rattle.sux.specs.Opening.{AreDumpWords}
+use Rattle.sux.specs.Opening.{AreDumpWords, dump_in}
 use Rattle.sux.proofs.FirstDumps.{IsFirst, first_file}
 use Rattle.sux.proofs.Opens.{long_words}
 use Rattle.sux.proofs.open.decode.Goals as goal
 
 decoded : (bytes words : List ℕ) (keys : ℕ) → words ≡ bytes_words bytes → keys ≡ slice_index words 4 → ((i : ℕ) → get_or bytes i 0 < 256) → ((i : ℕ) → slice_index words i < 2 ^ 64) → is_first words (length bytes) ≡ true
-    → (w : AreDumpWords keys words) × (bytes ≡ dump_bytes (first_dump keys w.cells))
+    → AreDumpWords keys words × (bytes ≡ dump_bytes (dump_in keys words))
 decoded bytes words keys are at byte word is =
     let word_there : (i : ℕ) → get_or (bytes_words bytes) i 0 < 2 ^ 64 = subst (λ (ws : List ℕ). (i : ℕ) → get_or ws i 0 < 2 ^ 64) are word in
     let is_there : is_first (bytes_words bytes) (length bytes) ≡ true = subst (λ (ws : List ℕ). is_first ws (length bytes) ≡ true) are is in
     let whole = first_file bytes byte word_there is_there in
     let same : slice_index (bytes_words bytes) 4 ≡ keys = sym (at ∙ ap (λ (ws : List ℕ). slice_index ws 4) are) in
-    let P : ℕ → Type 0 = λ k. (w : AreDumpWords k words) × (bytes ≡ dump_bytes (first_dump k w.cells)) in
-    subst P same (record { cells = drop 14 (bytes_words bytes); are = are ∙ whole.words; few = whole.few; count = whole.count; small = whole.small }, whole.is)
+    let P : ℕ → Type 0 = λ k. AreDumpWords k (bytes_words bytes) × (bytes ≡ dump_bytes (dump_in k (bytes_words bytes))) in
+    let there : P keys = subst P same (record { are = whole.words; few = whole.few; count = whole.count; small = whole.small }, whole.is) in
+    subst (λ (ws : List ℕ). AreDumpWords keys ws × (bytes ≡ dump_bytes (dump_in keys ws))) (sym are) there
 
 pub returns-then-is_first_dump : goal.returns-then-is_first_dump
 returns-then-is_first_dump c =
