@@ -13,3 +13,4 @@ pub mod Prepares
 pub mod Opens
 pub mod Serves
 pub mod Shelves
+pub mod Asked

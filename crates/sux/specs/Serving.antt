@@ -1,10 +1,14 @@
 -- What answering the query lines of input comes to.
 use Rattle.std.specs.Prelude.{◌≡◌, ◌⊎◌, Bool, false, ℕ, ◌+◌, ◌*◌, ◌<◌, ◌≤◌, List, [], ◌++◌, length, Option, None}
-use Rattle.std.specs.Io.KnownBytes.{Appends}
+use Rattle.std.specs.Io.KnownBytes.{Appends, Keeps}
 use Rattle.sx_spec.specs.Causes.{Rose}
 use Rattle.sx_spec.specs.Command.{Text}
 use Rattle.sx_spec.specs.Layout.{Dump}
+use Rattle.sx_spec.specs.Messages.{long_query_text, many_queries_text}
 use Rattle.sx_spec.specs.Outcomes.{max_queries}
+use Rattle.sx_spec.specs.declared.Status.{Status}
+use Rattle.sx_spec.specs.declared.Status.TheVariants.{Done as AllDone, BadInput, Fault}
+use Rattle.sux.specs.Telling.{Tells}
 use Rattle.sx_spec.specs.Reply.{answers}
 use Rattle.sx_edge.specs.Parts.{AppendsPrefix}
 use Rattle.sx_edge.specs.Reading.{Reading}
@@ -99,3 +103,16 @@ pub record IsUnfinished (held : List ℕ) (old new : Option (List ℕ)) (before 
 -- one of the two
 abbrev pub Finishes : List ℕ → Option (List ℕ) → Option (List ℕ) → ℕ → ℕ → Served → Served → Type 0
 Finishes held old new before after served result = IsFinished held old new served result ⊎ IsUnfinished held old new before after result
+
+-- nothing is told
+pub record IsQuiet (status : Status) (old new : Option (List ℕ)) (result : Status) : Type 0 where
+  pub is : result ≡ status
+  pub err : Keeps old new
+
+-- what is told where the lines came to this, and the status
+abbrev pub Ends : Served → Option (List ℕ) → Option (List ℕ) → ℕ → ℕ → Status → Type 0
+Ends Done old new before after result = IsQuiet AllDone old new result
+Ends (TooLong line) old new before after result = Tells (long_query_text line) BadInput old new before after result
+Ends TooMany old new before after result = Tells (many_queries_text (max_queries + 1)) BadInput old new before after result
+Ends InputFailed old new before after result = IsQuiet Fault old new result
+Ends OutputFailed old new before after result = IsQuiet Fault old new result

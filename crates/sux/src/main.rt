@@ -1,10 +1,10 @@
 //! Numbers sorted keys without keeping them: builds static functions, and queries them.
 #![tactic(auto)]
 
-
 mod build;
 mod open;
 mod prepare;
+mod query;
 mod command;
 mod dump;
 mod keys;

@@ -3,7 +3,7 @@ ghost use Rattle.std.specs.Prelude.{◌≡◌, ◌++◌, ◌∷◌, [], IfOk, co
 ghost use Rattle.sx_spec.specs.Command.{Text};
 ghost use Rattle.sx_spec.specs.Keys.{KeyFault};
 ghost use Rattle.sx_spec.specs.FirstPath.{first_key_text};
-ghost use Rattle.sx_spec.specs.Messages.{message, usage_text, long_query_text, many_queries_text, no_dump_text, no_seed_text, memory_text};
+ghost use Rattle.sx_spec.specs.Messages.{message, usage_text, no_dump_text, no_seed_text, memory_text};
 ghost use Rattle.sx_spec.specs.declared.Rule.TheVariants.{BadWords};
 ghost use Rattle.sux.specs.KeyLines.{fault_of, told_of};
 ghost use Rattle.sux.specs.FirstDump.{first_unknown};
@@ -53,13 +53,6 @@ pub fn key_text(alloc: Global, line: u64, reason: KeyReason) -> Result<Vec<u8>, 
     ensures { IfOk result (λ text. text.items ≡ first_key_text (fault_of line reason)) }
 {
     line_text(alloc, "line ", line, reason_text(reason))
-}
-
-/// What is told of a query line that is too long.
-pub fn long_query(alloc: Global, line: u64) -> Result<Vec<u8>, AllocError>
-    ensures { IfOk result (λ text. text.items ≡ long_query_text line) }
-{
-    line_text(alloc, "query line ", line, ": longer than 8191 bytes")
 }
 
 /// What is told of words that are no command.

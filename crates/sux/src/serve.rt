@@ -21,6 +21,9 @@ use sx_steps::Steps;
 /// How many query lines are answered at most.
 const MAX_QUERIES: u64 = 4_294_967_296;
 
+/// The number of the first line that isn't answered, where there are too many.
+pub const FIRST_REFUSED: u64 = MAX_QUERIES + 1;
+
 /// The word at which the chunk table of the dump's function begins.
 const TABLE: usize = 12;
 
