@@ -5,6 +5,7 @@ mod build;
 mod open;
 mod prepare;
 mod query;
+mod run;
 mod command;
 mod dump;
 mod keys;
