@@ -1,6 +1,5 @@
 -- Parts of a buffer, one behind the other.
-use Rattle.std.proofs.Common.{◌≡◌, ℕ, zero, suc, ◌+◌, ◌-◌, ◌<◌, ◌≤◌, List, [], ◌∷◌, ◌++◌, take, drop, length, get_or, arith, refl, sym, ap, ◌∙◌, length-drop}
-use Rattle.std.proofs.lemmas.Grind.{common_steps}
+use Rattle.std.proofs.Common.{◌≡◌, ℕ, suc, ◌+◌, ◌-◌, ◌<◌, ◌≤◌, List, [], ◌∷◌, ◌++◌, take, drop, length, get_or, arith, refl, sym, ap, ◌∙◌, length-drop}
 use Rattle.std.proofs.lemmas.List.{length-take-le, drop-drop, take-append-drop, take-take, drop-take}
 use Rattle.std.proofs.Math.Seq.{drop-cons}
 use Rattle.sx_edge.specs.Places.{bytes_between}
@@ -18,7 +17,7 @@ between_joins buf start mid end low high =
     let width : end - start ≡ (mid - start) + (end - mid) = omega arith in
     let at : start + (mid - start) ≡ mid = omega arith in
     let back : drop (mid - start) (take (end - start) xs) ≡ take (end - mid) (drop mid buf) =
-        rw width (drop-take (mid - start) (end - mid) xs ∙ ap (λ (l : List ℕ). take (end - mid) l) (drop-drop (mid - start) start buf ∙ ap (λ (n : ℕ). drop n buf) at)) in
+    rw width (drop-take (mid - start) (end - mid) xs ∙ ap (λ (l : List ℕ). take (end - mid) l) (drop-drop (mid - start) start buf ∙ ap (λ (n : ℕ). drop n buf) at)) in
     sym (take-append-drop (mid - start) (take (end - start) xs)) ∙ rw (front, back) refl
 
 pub between_first : (buf : List ℕ) (start end : ℕ) → start < end → end ≤ length buf → bytes_between buf start end ≡ get_or buf start 0 ∷ bytes_between buf (start + 1) end

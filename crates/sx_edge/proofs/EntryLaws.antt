@@ -1,8 +1,7 @@
 -- Entries by name: one that is looked up, one that is changed and one that comes behind.
-use Rattle.std.proofs.Common.{◌≡◌, ◌≢◌, ℕ, zero, suc, ◌+◌, ◌-◌, ◌<◌, ◌≤◌, max, nat_lt, nat_le, ◌==◌, Bool, true, false, cond, List, [], ◌∷◌, ◌++◌, take, drop, length, get_or, Option, Some, None, IfSome, is_some, arith, refl, sym, ap, subst, ◌∙◌, inl, inr}
+use Rattle.std.proofs.Common.{◌≡◌, ◌≢◌, ℕ, zero, suc, ◌<◌, ◌≤◌, max, nat_lt, nat_le, ◌==◌, Bool, true, false, cond, List, [], ◌∷◌, ◌++◌, length, get_or, Option, Some, None, IfSome, arith, refl, sym, ap, ◌∙◌, inl, inr}
 use Rattle.std.proofs.Math.ListN.{set}
-use Rattle.std.specs.Prelude.{unwrap_or, option_and_then, option_map, slice_get}
-use Rattle.std.proofs.lemmas.Grind.{common_steps}
+use Rattle.std.specs.Prelude.{unwrap_or, option_and_then, slice_get}
 use Rattle.std.proofs.lemmas.Bool.{cases_lt}
 use Rattle.std.proofs.lemmas.Bool.Decides.{nat_tests}
 use Rattle.std.proofs.lemmas.Slice.Eq.{bytes_eq-Decides}
@@ -11,9 +10,9 @@ use Rattle.std.proofs.lemmas.List.Folds.{find-set, find_at, position_or_len-set}
 use Rattle.std.proofs.lemmas.List.Sums.{passes_at_first}
 use Rattle.std.specs.List.{find, position_or_len}
 use Rattle.std.specs.Str.{bytes_eq}
-use Rattle.sx_spec.specs.World.{Files, KeepsFiles, SetsFile}
+use Rattle.sx_spec.specs.World.{KeepsFiles, SetsFile}
 use Rattle.sx_edge.specs.declared.memory.entry.Entry.{Entry}
-use Rattle.sx_edge.specs.declared.memory.in_use.InUse.TheVariants.{Idle, Reading, Writing}
+use Rattle.sx_edge.specs.declared.memory.in_use.InUse.TheVariants.{Reading, Writing}
 use Rattle.sx_edge.specs.Shelf.{AppendsFile}
 use Rattle.sx_edge.specs.InUse.{holds_of, is_placed, name_of}
 use Rattle.sx_edge.specs.Entries.{bytes_in, room_in, bytes_of, is_named, place_named, files_of, room_of}

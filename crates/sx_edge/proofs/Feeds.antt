@@ -1,11 +1,10 @@
 -- Line feeds: the first one of a list, and what stands before it.
-use Rattle.std.proofs.Common.{◌≡◌, ◌≢◌, ℕ, zero, suc, ◌+◌, ◌-◌, ◌<◌, ◌≤◌, nat_lt, min, Bool, true, false, ◌||◌, List, [], ◌∷◌, ◌++◌, Option, Some, None, take, drop, length, get_or, arith, refl, sym, ap, ◌∙◌, inl, inr, length-drop, append_assoc}
-use Rattle.std.proofs.lemmas.Grind.{common_steps}
+use Rattle.std.proofs.Common.{◌≡◌, ◌≢◌, ℕ, zero, suc, ◌+◌, ◌-◌, ◌<◌, ◌≤◌, nat_lt, min, true, false, List, [], ◌∷◌, ◌++◌, Some, None, take, drop, length, get_or, arith, refl, sym, ap, ◌∙◌, inl, inr, append_assoc}
 use Rattle.std.proofs.lemmas.Bool.Decides.{nat_tests}
-use Rattle.std.proofs.lemmas.List.{length-take-le, take-take, take_all, get_or-take, get_or-drop}
+use Rattle.std.proofs.lemmas.List.{take-take, take_all, get_or-take, get_or-drop}
 use Rattle.std.proofs.lemmas.List.Folds.{list_any-append}
 use Rattle.std.proofs.lemmas.Bool.{cases_lt}
-use Rattle.memchr.specs.Find.{Passes, IsFirstByte, Nowhere, is_byte}
+use Rattle.memchr.specs.Find.{Passes, IsFirstByte, is_byte}
 use Rattle.std.specs.List.{list_any, onto_first}
 use Rattle.sx_spec_strings.specs.Lines.{is_line_feed, lines}
 use Rattle.sx_edge.specs.Places.{HasNoFeed, bytes_between, IsFeedPlace}
@@ -92,7 +91,7 @@ pub long_line : (buf rest : List ℕ) (start end place max : ℕ) → end ≤ le
 long_line buf rest start end place max within at long =
     let size = length-between buf start place (omega (arith, at.to)) in
     let parts : bytes_between buf start end ++ rest ≡ bytes_between buf start place ++ (bytes_between buf place end ++ rest) =
-        ap (λ (l : List ℕ). l ++ rest) (between_joins buf start place end at.from at.to) ∙ append_assoc (bytes_between buf start place) (bytes_between buf place end) rest in
+    ap (λ (l : List ℕ). l ++ rest) (between_joins buf start place end at.from at.to) ∙ append_assoc (bytes_between buf start place) (bytes_between buf place end) rest in
     rw parts (omega (arith, size, first_line-long (bytes_between buf start place) (bytes_between buf place end ++ rest) at.none))
 
 -- ---- the first line is cut off

@@ -1,5 +1,5 @@
 -- Files that stay, that are made and that grow, one step after the other.
-use Rattle.std.proofs.Common.{◌≡◌, ◌≢◌, ℕ, List, [], ◌++◌, Option, Some, None, IfSome, IsSome, refl, sym, ap, ◌∙◌, subst, append_assoc, append-nil}
+use Rattle.std.proofs.Common.{◌≡◌, ℕ, List, [], ◌++◌, Option, Some, None, IfSome, IsSome, refl, sym, ap, ◌∙◌, subst, append_assoc, append-nil}
 use Rattle.sx_spec.specs.Command.{Text}
 use Rattle.sx_spec.specs.World.{Files, KeepsFiles, SetsFile}
 use Rattle.sx_edge.specs.Shelf.{AppendsFile}

@@ -1,5 +1,5 @@
 -- What one read does to a buffer.
-use Rattle.std.proofs.Common.{◌≡◌, ℕ, ◌+◌, ◌-◌, ◌<◌, ◌≤◌, List, [], ◌++◌, Option, Some, None, Result, Ok, Err, IfOk, take, drop, length, arith, refl, sym, ap, ◌∙◌, zero-add, length-append, length-drop}
+use Rattle.std.proofs.Common.{◌≡◌, ℕ, ◌+◌, ◌-◌, ◌<◌, ◌≤◌, List, ◌++◌, Option, Result, Ok, Err, IfOk, take, drop, length, arith, refl, sym, ap, ◌∙◌, zero-add, length-append, length-drop}
 use Rattle.std.proofs.lemmas.List.{take-take, length-take-le, length-take}
 use Rattle.std.proofs.lemmas.List.Edits.{take-paste}
 use Rattle.std.specs.List.{copy_within}

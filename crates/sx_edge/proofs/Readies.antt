@@ -1,11 +1,9 @@
 -- When a reader needs no read for its next line.
-use Rattle.std.proofs.Common.{◌≡◌, ℕ, ◌+◌, ◌-◌, ◌<◌, ◌≤◌, nat_lt, Bool, true, false, ◌||◌, List, [], ◌++◌, Option, Some, None, is_some, length, arith, refl, sym, ap, ◌∙◌}
-use Rattle.std.proofs.lemmas.Grind.{common_steps}
+use Rattle.std.proofs.Common.{◌≡◌, ℕ, ◌-◌, ◌≤◌, nat_lt, Bool, true, false, ◌||◌, List, None, is_some, length, arith, refl, sym, ◌∙◌}
 use Rattle.std.proofs.lemmas.Bool.Decides.{nat_tests}
-use Rattle.sx_edge.specs.declared.line.LineFault.{LineFault}
 use Rattle.std.specs.List.{list_any}
 use Rattle.sx_spec_strings.specs.Lines.{is_line_feed}
-use Rattle.sx_edge.specs.Places.{HasNoFeed, bytes_between, IsFeedPlace}
+use Rattle.sx_edge.specs.Places.{bytes_between, IsFeedPlace}
 use Rattle.sx_edge.specs.Reading.{Reading, is_ready, Waits}
 use Rattle.sx_edge.proofs.Betweens.{length-between}
 use Rattle.sx_edge.proofs.Feeds.{has_feed}

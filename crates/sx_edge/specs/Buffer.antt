@@ -1,5 +1,5 @@
 -- The buffer of a line reader.
-use Rattle.std.specs.Prelude.{ℕ, ◌+◌, ◌^◌, ◌≤◌, length}
+use Rattle.std.specs.Prelude.{◌+◌, ◌^◌, ◌≤◌, length}
 use Rattle.sx_edge.specs.declared.line.LineReader.TheInside.{Inside}
 use Rattle.sx_edge.specs.Places.{IsFeedPlace}
 

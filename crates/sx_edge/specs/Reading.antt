@@ -1,8 +1,7 @@
 -- What a line reader is to a contract, and what its calls do.
-use Rattle.std.specs.Prelude.{◌≡◌, ◌≢◌, ℕ, ◌+◌, ◌<◌, ◌≤◌, ◌⊎◌, ◌||◌, nat_lt, List, [], ◌∷◌, ◌++◌, length, slice_index_or, Bool, true, false, Option, Some, None, is_some}
+use Rattle.std.specs.Prelude.{◌≡◌, ◌≢◌, ℕ, ◌+◌, ◌<◌, ◌≤◌, ◌⊎◌, ◌||◌, nat_lt, List, [], ◌∷◌, ◌++◌, length, slice_index_or, Bool, true, false, Option, Some, is_some}
 use Rattle.std.specs.List.{list_any}
 use Rattle.std.specs.Io.KnownBytes.{Consumes, IsAtEnd}
-use Rattle.sx_spec.specs.Causes.{Rose}
 use Rattle.sx_spec_strings.specs.Lines.{is_line_feed, lines}
 use Rattle.sx_edge.specs.Places.{HasNoFeed}
 use Rattle.sx_edge.specs.declared.line.LineFault.{LineFault}

@@ -6,7 +6,6 @@ pub mod line;
 pub mod shelf;
 pub mod sink;
 pub mod source;
-pub mod words;
-
 #[cfg(test)]
 mod tests;
+pub mod words;

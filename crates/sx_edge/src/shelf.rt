@@ -149,7 +149,11 @@ pub fn read_file<F: Shelf>(alloc: Global, files: &mut F, max: u64) -> Result<Vec
 }
 
 // Reads once, and puts the bytes that came behind those that are there. Gives their number.
-fn read_piece<F: Shelf>(files: &mut F, bytes: &mut Vec<u8>, part: &mut [u8]) -> Result<usize, ReadFault>
+fn read_piece<F: Shelf>(
+    files: &mut F,
+    bytes: &mut Vec<u8>,
+    part: &mut [u8],
+) -> Result<usize, ReadFault>
     requires reading { F.in_use files.old ≡ reading }
     requires room { 0 < length part.old }
     ensures took { IfOk result (λ count. TakesPiece (F.rest files.old) (F.rest files.new) bytes.old.items bytes.new.items count) }

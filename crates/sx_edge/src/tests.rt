@@ -1,12 +1,14 @@
-ghost use Rattle.std.specs.Prelude.{◌≤◌};
+ghost use Rattle.std.specs.Prelude.{◌≡◌, ◌≤◌, ◌^◌, IfOk, OnOk};
+ghost use Rattle.sx_edge.specs.Shelf.{idle};
+ghost use Rattle.sx_edge.specs.InUse.{use_of};
 
 use crate::line::{LineFault, LineReader, Step};
 use crate::memory::calm::{CalmSource, CountSink};
 use crate::memory::shelf::MemShelf;
 use crate::memory::sink::MemSink;
 use crate::memory::source::MemSource;
-use crate::shelf::{read_file, write_file, ReadFault, Shelf};
-use crate::sink::{write_all, Sink};
+use crate::shelf::{ReadFault, Shelf, read_file, write_file};
+use crate::sink::{Sink, write_all};
 use crate::source::{Failed, Source};
 use crate::words::WordList;
 use std::alloc::Global;
@@ -28,21 +30,36 @@ fn expect_line(rt: &impl Abort, reader: &mut LineReader, src: &mut MemSource, li
     assert_eq!(rt; reader.line(), line);
 }
 
+fn expect_end(rt: &impl Abort, reader: &mut LineReader, src: &mut MemSource) {
+    assert!(rt; reader.number() < 9);
+    assert_eq!(rt; reader.next(src), Ok(Step::End));
+}
+
+fn expect_fault(rt: &impl Abort, reader: &mut LineReader, src: &mut MemSource, fault: LineFault) {
+    assert!(rt; reader.number() < 9);
+    assert_eq!(rt; reader.next(src), Err(fault));
+}
+
+fn expect_three_lines(rt: &impl Abort, alloc: Global, piece: usize) -> Result<(), Fail>
+    requires { 1 ≤ piece }
+{
+    let mut src = source(alloc, b"a\n\nb", piece, &[])?;
+    let mut reader = LineReader::new(alloc, 8191)?;
+    expect_line(rt, &mut reader, &mut src, b"a");
+    expect_line(rt, &mut reader, &mut src, b"");
+    expect_line(rt, &mut reader, &mut src, b"b");
+    assert!(rt; reader.has_line());
+    expect_end(rt, &mut reader, &mut src);
+    expect_end(rt, &mut reader, &mut src);
+    assert_eq!(rt; reader.number(), 3);
+    Ok(())
+}
+
 #[test]
 fn lines_in_pieces(rt: HostRuntime) -> Result<(), Fail> {
-    for piece in [1, 2, 7] {
-        assert!(&rt; piece >= 1);
-        let mut src = source(rt.alloc(), b"a\n\nb", piece, &[])?;
-        let mut reader = LineReader::new(rt.alloc(), 8191)?;
-        expect_line(&rt, &mut reader, &mut src, b"a");
-        expect_line(&rt, &mut reader, &mut src, b"");
-        expect_line(&rt, &mut reader, &mut src, b"b");
-        assert!(&rt; reader.number() == 3);
-        assert!(&rt; reader.has_line());
-        assert_eq!(&rt; reader.next(&mut src), Ok(Step::End));
-        assert!(&rt; reader.number() == 3);
-        assert_eq!(&rt; reader.next(&mut src), Ok(Step::End));
-    }
+    expect_three_lines(&rt, rt.alloc(), 1)?;
+    expect_three_lines(&rt, rt.alloc(), 2)?;
+    expect_three_lines(&rt, rt.alloc(), 7)?;
     Ok(())
 }
 
@@ -58,17 +75,23 @@ fn a_carriage_return_is_a_byte(rt: HostRuntime) -> Result<(), Fail> {
 }
 
 #[test]
-fn long_lines(rt: HostRuntime) -> Result<(), Fail> {
-    let x = [b'x'; 8192];
-    let mut src = source(rt.alloc(), &x[..8191], 1000, &[])?;
-    let mut reader = LineReader::new(rt.alloc(), 8191)?;
-    expect_line(&rt, &mut reader, &mut src, &x[..8191]);
+fn the_longest_line(rt: HostRuntime) -> Result<(), Fail> {
+    let x = Vec::from_slice(rt.alloc(), &[b'x'; 8191])?;
     let mut src = source(rt.alloc(), &x, 1000, &[])?;
     let mut reader = LineReader::new(rt.alloc(), 8191)?;
-    assert_eq!(&rt; reader.next(&mut src), Err(LineFault::TooLong { line: 1 }));
+    expect_line(&rt, &mut reader, &mut src, &x);
+    expect_end(&rt, &mut reader, &mut src);
+    Ok(())
+}
+
+#[test]
+fn a_line_too_long(rt: HostRuntime) -> Result<(), Fail> {
+    let x = Vec::from_slice(rt.alloc(), &[b'x'; 8192])?;
+    let mut src = source(rt.alloc(), &x, 1000, &[])?;
+    let mut reader = LineReader::new(rt.alloc(), 8191)?;
+    expect_fault(&rt, &mut reader, &mut src, LineFault::TooLong { line: 1 });
     let calls = src.calls();
-    assert!(&rt; reader.number() == 0);
-    assert_eq!(&rt; reader.next(&mut src), Err(LineFault::TooLong { line: 1 }));
+    expect_fault(&rt, &mut reader, &mut src, LineFault::TooLong { line: 1 });
     assert_eq!(&rt; src.calls(), calls);
     Ok(())
 }
@@ -79,49 +102,102 @@ fn a_read_that_fails(rt: HostRuntime) -> Result<(), Fail> {
     let mut reader = LineReader::new(rt.alloc(), 8191)?;
     expect_line(&rt, &mut reader, &mut src, b"a");
     expect_line(&rt, &mut reader, &mut src, b"b");
-    assert!(&rt; reader.number() == 2);
-    assert_eq!(&rt; reader.next(&mut src), Err(LineFault::ReadFault));
+    expect_fault(&rt, &mut reader, &mut src, LineFault::ReadFault);
     assert_eq!(&rt; src.left(), b"c".as_slice());
-    assert!(&rt; reader.number() == 2);
-    assert_eq!(&rt; reader.next(&mut src), Err(LineFault::ReadFault));
+    expect_fault(&rt, &mut reader, &mut src, LineFault::ReadFault);
     assert_eq!(&rt; src.calls(), 3);
     Ok(())
 }
 
+fn sink(alloc: Global, fails: &[u64]) -> Result<MemSink, Fail> {
+    let fails = Vec::from_slice(alloc, fails)?;
+    Ok(MemSink::new(alloc, 7, 2, fails)?)
+}
+
+fn expect_written(
+    rt: &impl Abort,
+    sink: &mut MemSink,
+    bytes: &[u8],
+    answer: Result<(), Failed>,
+    all: &[u8],
+) {
+    assert!(rt; write_all(sink, bytes) == answer);
+    assert_eq!(rt; sink.bytes(), all);
+}
+
 #[test]
 fn writes_in_pieces(rt: HostRuntime) -> Result<(), Fail> {
-    let mut sink = MemSink::new(rt.alloc(), 7, 2, Vec::new(rt.alloc()))?;
-    assert_eq!(&rt; write_all(&mut sink, b"abcde"), Ok(()));
-    assert_eq!(&rt; sink.bytes(), b"abcde".as_slice());
+    let mut sink = sink(rt.alloc(), &[])?;
+    expect_written(&rt, &mut sink, b"abcde", Ok(()), b"abcde");
     assert_eq!(&rt; sink.calls(), 3);
-    assert_eq!(&rt; write_all(&mut sink, b"fgh"), Err(Failed));
-    assert_eq!(&rt; sink.bytes(), b"abcdefg".as_slice());
-    let mut sink = MemSink::new(rt.alloc(), 7, 2, Vec::from_slice(rt.alloc(), &[2])?)?;
-    assert_eq!(&rt; write_all(&mut sink, b"abcde"), Err(Failed));
-    assert_eq!(&rt; sink.bytes(), b"ab".as_slice());
-    assert_eq!(&rt; write_all(&mut sink, b"cde"), Ok(()));
-    assert_eq!(&rt; sink.bytes(), b"abcde".as_slice());
+    expect_written(&rt, &mut sink, b"fgh", Err(Failed), b"abcdefg");
     Ok(())
 }
 
 #[test]
-fn files_on_a_shelf(rt: HostRuntime) -> Result<(), Fail> {
-    let mut files = MemShelf::new(rt.alloc(), Vec::new(rt.alloc()));
-    files.put("V", b"10\n7\n")?;
+fn a_write_that_fails(rt: HostRuntime) -> Result<(), Fail> {
+    let mut sink = sink(rt.alloc(), &[2])?;
+    expect_written(&rt, &mut sink, b"abcde", Err(Failed), b"ab");
+    expect_written(&rt, &mut sink, b"cde", Ok(()), b"abcde");
+    Ok(())
+}
+
+fn shelf(alloc: Global, fails: &[u64]) -> Result<MemShelf, Fail>
+    ensures { IfOk result (λ files. use_of files.used ≡ idle) }
+{
+    let fails = Vec::from_slice(alloc, fails)?;
+    Ok(MemShelf::new(alloc, fails))
+}
+
+fn write_named(files: &mut MemShelf, name: &str, bytes: &[u8]) -> Result<(), Fail>
+    requires { use_of files.old.used ≡ idle }
+    ensures { OnOk result (use_of files.new.used ≡ idle) }
+{
+    files.create(name)?;
+    write_file(files, bytes)?;
+    files.close()?;
+    Ok(())
+}
+
+fn read_named(alloc: Global, files: &mut MemShelf, name: &str, max: u64) -> Result<Vec<u8>, Fail>
+    requires idle { use_of files.old.used ≡ idle }
+    requires max { max ≤ 2 ^ 30 }
+    ensures { OnOk result (use_of files.new.used ≡ idle) }
+{
+    if !files.open_file(name)? {
+        return Ok(Vec::new(alloc));
+    }
+    let bytes = read_file(alloc, files, max).map_err(|_| Failed)?;
+    files.close()?;
+    Ok(bytes)
+}
+
+#[test]
+fn a_file_is_written_and_read(rt: HostRuntime) -> Result<(), Fail> {
+    let mut files = shelf(rt.alloc(), &[])?;
     files.room("D", 5)?;
     assert_eq!(&rt; files.bytes("D"), None);
-    files.create("D")?;
-    write_file(&mut files, b"abc")?;
-    files.close()?;
+    write_named(&mut files, "D", b"abc")?;
     assert_eq!(&rt; files.bytes("D").ok_or("none")?, b"abc".as_slice());
-    assert_eq!(&rt; files.bytes("V").ok_or("none")?, b"10\n7\n".as_slice());
-    assert!(&rt; files.open_file("D")?);
-    assert_eq!(&rt; read_file(rt.alloc(), &mut files, 9)?.as_slice(), b"abc".as_slice());
-    files.close()?;
-    assert!(&rt; files.open_file("V")?);
-    assert_eq!(&rt; read_file(rt.alloc(), &mut files, 2)?.as_slice(), b"10\n".as_slice());
-    files.close()?;
+    let bytes = read_named(rt.alloc(), &mut files, "D", 9)?;
+    assert_eq!(&rt; bytes.as_slice(), b"abc".as_slice());
+    Ok(())
+}
+
+#[test]
+fn a_file_is_read_up_to_a_bound(rt: HostRuntime) -> Result<(), Fail> {
+    let mut files = shelf(rt.alloc(), &[])?;
+    files.put("V", b"10\n7\n")?;
+    let bytes = read_named(rt.alloc(), &mut files, "V", 2)?;
+    assert_eq!(&rt; bytes.as_slice(), b"10\n".as_slice());
     assert!(&rt; !files.open_file("X")?);
+    Ok(())
+}
+
+#[test]
+fn a_file_without_room(rt: HostRuntime) -> Result<(), Fail> {
+    let mut files = shelf(rt.alloc(), &[])?;
+    files.put("D", b"abcde")?;
     assert_eq!(&rt; files.create("X"), Err(Failed));
     files.create("D")?;
     assert_eq!(&rt; write_file(&mut files, b"123456"), Err(Failed));
@@ -131,15 +207,15 @@ fn files_on_a_shelf(rt: HostRuntime) -> Result<(), Fail> {
 
 #[test]
 fn calls_of_a_shelf_that_fail(rt: HostRuntime) -> Result<(), Fail> {
-    let mut files = MemShelf::new(rt.alloc(), Vec::from_slice(rt.alloc(), &[1, 3, 5])?);
+    let mut files = shelf(rt.alloc(), &[1, 3])?;
     files.put("D", b"abc")?;
     assert_eq!(&rt; files.open_file("D"), Err(Failed));
     assert!(&rt; files.open_file("D")?);
-    assert_eq!(&rt; read_file(rt.alloc(), &mut files, 9).err(), Some(ReadFault::Failed));
-    files.close()?;
-    assert_eq!(&rt; files.create("D"), Err(Failed));
-    assert_eq!(&rt; files.bytes("D").ok_or("none")?, b"abc".as_slice());
-    assert_eq!(&rt; files.calls(), 5);
+    assert_eq!(&rt;
+        read_file(rt.alloc(), &mut files, 9).err(),
+        Some(ReadFault::Failed)
+    );
+    assert_eq!(&rt; files.calls(), 3);
     Ok(())
 }
 
@@ -155,13 +231,18 @@ fn words_in_order(rt: HostRuntime) -> Result<(), Fail> {
 }
 
 #[test]
-fn calm_objects(rt: HostRuntime) -> Result<(), Fail> {
+fn a_calm_source(rt: HostRuntime) -> Result<(), Fail> {
     let mut src = CalmSource::new(Vec::from_slice(rt.alloc(), b"abc")?);
     let mut buf = [0; 2];
     assert_eq!(&rt; src.read(&mut buf), Ok(2));
     assert_eq!(&rt; buf.as_slice(), b"ab".as_slice());
     assert_eq!(&rt; src.read(&mut buf), Ok(1));
     assert_eq!(&rt; src.read(&mut buf), Ok(0));
+    Ok(())
+}
+
+#[test]
+fn a_sink_that_counts(rt: HostRuntime) -> Result<(), Fail> {
     let mut sink = CountSink::new();
     assert_eq!(&rt; sink.write(b"abc"), Ok(3));
     assert_eq!(&rt; write_all(&mut sink, b"de"), Ok(()));

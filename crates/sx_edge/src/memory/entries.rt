@@ -26,14 +26,23 @@ pub(crate) fn file_named<'a>(entries: &'a [Entry], name: &[u8]) -> Option<&'a [u
     match place_of(entries, name) {
         Some(place) => {
             let entry = &entries[place];
-            if entry.there() { Some(entry.bytes()) } else { None }
+            if entry.there() {
+                Some(entry.bytes())
+            } else {
+                None
+            }
         }
         None => None,
     }
 }
 
 /// Makes room under the name, where less was made.
-pub(crate) fn make_room(alloc: Global, entries: &mut Vec<Entry>, name: &[u8], size: usize) -> Result<(), AllocError>
+pub(crate) fn make_room(
+    alloc: Global,
+    entries: &mut Vec<Entry>,
+    name: &[u8],
+    size: usize,
+) -> Result<(), AllocError>
     ensures files { KeepsFiles (Some (files_of entries.old.items)) (Some (files_of entries.new.items)) }
     ensures room { OnOk result (room_of entries.new.items name.now ≡ Some (max (unwrap_or (room_of entries.old.items name.now) 0) size)) }
     ensures others { (other : List ℕ) → other ≢ name.now → room_of entries.new.items other ≡ room_of entries.old.items other }

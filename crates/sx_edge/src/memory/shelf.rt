@@ -10,7 +10,9 @@ ghost use Rattle.sx_edge.specs.Entries.{files_of, room_of};
 ghost use Rattle.sx_edge.specs.InUse.{is_placed, use_of, rest_of, name_of, room_left};
 
 use crate::memory::calls::Calls;
-use crate::memory::entries::{append_entry, clear_named, file_named, make_room, open_named, read_entry, set_named};
+use crate::memory::entries::{
+    append_entry, clear_named, file_named, make_room, open_named, read_entry, set_named,
+};
 use crate::memory::entry::Entry;
 use crate::memory::in_use::InUse;
 use crate::shelf::Shelf;
@@ -141,7 +143,10 @@ impl Shelf for MemShelf {
         match self.used {
             InUse::Reading { file, at } => {
                 let count = read_entry(&self.entries, file, at, buf);
-                self.used = InUse::Reading { file, at: at + count };
+                self.used = InUse::Reading {
+                    file,
+                    at: at + count,
+                };
                 Ok(count)
             }
             _ => unreachable!(),

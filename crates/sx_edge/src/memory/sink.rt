@@ -28,7 +28,12 @@ impl MemSink {
 
     /// Takes at most `piece` bytes a call and `room` in all, and fails at the calls of the numbers
     /// `fails`, counted from 1, and where the room is used up. All its memory is taken here.
-    pub fn new(alloc: Global, room: usize, piece: usize, fails: Vec<u64>) -> Result<MemSink, AllocError>
+    pub fn new(
+        alloc: Global,
+        room: usize,
+        piece: usize,
+        fails: Vec<u64>,
+    ) -> Result<MemSink, AllocError>
         requires { 1 ≤ piece }
         ensures written { IfOk result (λ sink. bytes_written sink ≡ []) }
         ensures room { IfOk result (λ sink. sink_room sink ≡ room) }

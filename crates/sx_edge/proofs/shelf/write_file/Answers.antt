@@ -1,5 +1,4 @@
-use Rattle.std.proofs.Common.{arith, ◌∙◌, subst}
-use Rattle.sx_edge.specs.Shelf.{AppendsFile}
+use Rattle.std.proofs.Common.{arith, ◌∙◌}
 use Rattle.sx_edge.proofs.Writing.{wrote_file_more}
 use Rattle.sx_edge.proofs.shelf.write_file.Goals as goal
 

@@ -1,5 +1,5 @@
-use Rattle.std.proofs.Common.{◌≡◌, ℕ, ◌-◌, ◌+◌, length, rules, arith, ◌∙◌, sym, ap, length-append, length-drop}
-use Rattle.std.proofs.lemmas.List.{with_items_is, length-take}
+use Rattle.std.proofs.Common.{◌≡◌, ℕ, ◌-◌, ◌+◌, length, rules, arith, ◌∙◌}
+use Rattle.std.proofs.lemmas.List.{with_items_is}
 use Rattle.std.specs.Vec.{with_items}
 use Rattle.sx_edge.specs.Places.{bytes_between, HasNoFeed, IsFeedPlace}
 use Rattle.sx_edge.proofs.Feeds.{feed_extends}

@@ -1,5 +1,5 @@
 use Rattle.std.proofs.Common.{◌≡◌, ◌≤◌, ◌+◌, ◌-◌, length, None, [], true, cond}
-use Rattle.sx_edge.specs.Reading.{Reading, Takes, SameBut, ReadsNothing, is_ready}
+use Rattle.sx_edge.specs.Reading.{Takes, SameBut, ReadsNothing, is_ready}
 use Rattle.sx_edge.proofs.line.LineReader.fill_line.Given as goal
 
 abbrev pub invariant-reads : goal.invariant-reads

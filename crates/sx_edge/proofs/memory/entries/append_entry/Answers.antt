@@ -1,4 +1,4 @@
-use Rattle.std.proofs.Common.{◌≡◌, ◌++◌, List, ℕ, [], take, cond, refl, sym, ap, Some, Option, None, ◌∙◌, append-nil}
+use Rattle.std.proofs.Common.{◌≡◌, ℕ, take, refl, ap, Some, Option, ◌∙◌, append-nil}
 use Rattle.std.specs.Prelude.{option_map, option_and_then}
 use Rattle.sx_edge.specs.declared.memory.entry.Entry.{Entry}
 use Rattle.sx_edge.specs.Entries.{bytes_in, bytes_of, room_in}

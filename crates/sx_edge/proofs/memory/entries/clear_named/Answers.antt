@@ -1,4 +1,4 @@
-use Rattle.std.proofs.Common.{◌≡◌, List, ℕ, [], refl, sym, ap, Some, Option, None, is_some, ◌∙◌}
+use Rattle.std.proofs.Common.{◌≡◌, ℕ, [], refl, sym, ap, Some, Option, None}
 use Rattle.std.specs.Prelude.{option_map}
 use Rattle.sx_edge.specs.declared.memory.entry.Entry.{Entry}
 use Rattle.sx_edge.specs.Entries.{place_named, bytes_of, room_in}

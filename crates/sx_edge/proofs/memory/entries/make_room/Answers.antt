@@ -1,5 +1,5 @@
-use Rattle.std.proofs.Common.{◌≡◌, ◌++◌, ◌∷◌, [], List, ℕ, max, Result, Ok, Err, OnOk, OnErr, Option, Some, None, refl, sym, ap, ◌∙◌}
-use Rattle.std.specs.Prelude.{option_map, option_and_then, unwrap_or}
+use Rattle.std.proofs.Common.{◌≡◌, ◌++◌, ◌∷◌, [], List, ℕ, Result, Ok, Err, OnOk, OnErr, Option, Some, None, refl, sym, ap, ◌∙◌}
+use Rattle.std.specs.Prelude.{option_map, option_and_then}
 use Rattle.sx_edge.specs.declared.memory.entry.Entry.{Entry}
 use Rattle.sx_edge.specs.Entries.{place_named, bytes_of, room_in, files_of, room_of}
 use Rattle.sx_edge.proofs.EntryLaws.{stands_at, same_under, find_changed, find_other, find_pushed_other, push_keeps_files, push_makes_room}

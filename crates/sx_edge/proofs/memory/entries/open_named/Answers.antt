@@ -1,6 +1,6 @@
-use Rattle.std.proofs.Common.{◌≡◌, List, ℕ, [], true, false, refl, sym, ap, Some, Option, None, drop, length, arith, ◌∙◌}
+use Rattle.std.proofs.Common.{◌≡◌, true, false, refl, sym, Some, None, arith}
 use Rattle.std.proofs.lemmas.Bool.Decides.{nat_tests}
-use Rattle.sx_edge.specs.Entries.{place_named, files_of}
+use Rattle.sx_edge.specs.Entries.{place_named}
 use Rattle.sx_edge.proofs.EntryLaws.{stands_at, no_entry}
 use Rattle.sx_edge.proofs.memory.entries.open_named.Goals as goal
 

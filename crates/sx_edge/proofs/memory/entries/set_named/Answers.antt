@@ -1,8 +1,8 @@
-use Rattle.std.proofs.Common.{◌≡◌, ◌≤◌, ◌++◌, ◌-◌, List, ℕ, [], true, false, refl, sym, ap, Some, Option, None, take, length, min, arith, ◌∙◌}
+use Rattle.std.proofs.Common.{◌≡◌, ◌≤◌, ◌++◌, ◌-◌, List, ℕ, [], true, refl, sym, ap, Some, Option, None, take, length, min, arith, ◌∙◌}
 use Rattle.std.proofs.lemmas.List.{take_all}
-use Rattle.std.specs.Prelude.{option_map, MatchOption}
+use Rattle.std.specs.Prelude.{option_map}
 use Rattle.sx_edge.specs.declared.memory.entry.Entry.{Entry}
-use Rattle.sx_edge.specs.Entries.{place_named, bytes_of, bytes_in, room_in}
+use Rattle.sx_edge.specs.Entries.{place_named, bytes_in, room_in}
 use Rattle.sx_edge.proofs.EntryLaws.{stands_at, no_entry, sets_file, same_under}
 use Rattle.sx_edge.proofs.memory.entries.set_named.Goals as goal
 
