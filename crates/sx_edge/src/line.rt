@@ -4,6 +4,8 @@ ghost use Rattle.sx_spec.specs.Causes.{HasCause, Rose};
 ghost use Rattle.std.specs.Io.KnownBytes.{Keeps};
 ghost use Rattle.sx_edge.specs.Places.{IsFeedPlace, TakesBehind};
 
+mod file;
+
 use crate::source::{Failed, Source};
 use memchr::memchr;
 use std::alloc::{AllocError, Global};

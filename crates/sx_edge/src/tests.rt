@@ -1,5 +1,5 @@
 ghost use Rattle.std.specs.Prelude.{◌≡◌, ◌≤◌, ◌^◌, IfOk, OnOk};
-ghost use Rattle.sx_edge.specs.Shelf.{idle};
+ghost use Rattle.sx_edge.specs.Shelf.{idle, reading};
 ghost use Rattle.sx_edge.specs.InUse.{use_of};
 
 use crate::line::{LineFault, LineReader, Step};
@@ -216,6 +216,29 @@ fn calls_of_a_shelf_that_fail(rt: HostRuntime) -> Result<(), Fail> {
         Some(ReadFault::Failed)
     );
     assert_eq!(&rt; files.calls(), 3);
+    Ok(())
+}
+
+fn expect_file_line(rt: &impl Abort, reader: &mut LineReader, files: &mut MemShelf, line: &[u8])
+    requires { use_of files.old.used ≡ reading }
+    ensures { use_of files.new.used ≡ reading }
+{
+    assert!(rt; reader.number() < 9);
+    let step = reader.next_file(files);
+    assert!(rt; matches!(step, Ok(Step::Line)));
+    assert_eq!(rt; reader.line(), line);
+}
+
+#[test]
+fn lines_of_a_file(rt: HostRuntime) -> Result<(), Fail> {
+    let mut files = shelf(rt.alloc(), &[])?;
+    files.put("V", b"10\n7")?;
+    let mut reader = LineReader::new(rt.alloc(), 8191)?;
+    assert!(&rt; files.open_file("V")?);
+    expect_file_line(&rt, &mut reader, &mut files, b"10");
+    expect_file_line(&rt, &mut reader, &mut files, b"7");
+    assert!(&rt; reader.number() < 9);
+    assert_eq!(&rt; reader.next_file(&mut files), Ok(Step::End));
     Ok(())
 }
 

@@ -17,6 +17,7 @@ pub struct CalmSource {
 }
 
 impl CalmSource {
+    /// Nothing was read yet.
     pub fn new(bytes: Vec<u8>) -> CalmSource
         ensures { drop result.at result.bytes.items ≡ bytes.items }
     {
@@ -49,6 +50,7 @@ pub struct CountSink {
 }
 
 impl CountSink {
+    /// Nothing was written yet.
     pub fn new() -> CountSink
         ensures { result.count ≡ 0 }
     {
