@@ -1,5 +1,5 @@
 -- Entries by name: one that is looked up, one that is changed and one that comes behind.
-use Rattle.std.proofs.Common.{◌≡◌, ◌≢◌, ℕ, zero, suc, ◌<◌, ◌≤◌, max, nat_lt, nat_le, ◌==◌, Bool, true, false, cond, List, [], ◌∷◌, ◌++◌, length, get_or, Option, Some, None, IfSome, arith, refl, sym, ap, ◌∙◌, inl, inr}
+use Rattle.std.proofs.Common.{◌≡◌, ◌≢◌, ℕ, zero, suc, ◌<◌, ◌≤◌, max, nat_lt, ◌==◌, Bool, true, false, cond, List, [], ◌∷◌, ◌++◌, length, get_or, Option, Some, None, IfSome, arith, refl, sym, ap, ◌∙◌, inl, inr}
 use Rattle.std.proofs.Math.ListN.{set}
 use Rattle.std.specs.Prelude.{unwrap_or, option_and_then, slice_get}
 use Rattle.std.proofs.lemmas.Bool.{cases_lt}
@@ -12,7 +12,7 @@ use Rattle.std.specs.List.{find, position_or_len}
 use Rattle.std.specs.Str.{bytes_eq}
 use Rattle.sx_spec.specs.World.{KeepsFiles, SetsFile}
 use Rattle.sx_edge.specs.declared.memory.entry.Entry.{Entry}
-use Rattle.sx_edge.specs.declared.memory.in_use.InUse.TheVariants.{Reading, Writing}
+use Rattle.sx_edge.specs.declared.memory.in_use.InUse.TheVariants.{Writing}
 use Rattle.sx_edge.specs.Shelf.{AppendsFile}
 use Rattle.sx_edge.specs.InUse.{holds_of, is_placed, name_of}
 use Rattle.sx_edge.specs.Entries.{bytes_in, room_in, bytes_of, is_named, place_named, files_of, room_of}
@@ -102,13 +102,6 @@ holds_true test (Some entry) e = (entry, refl, e)
 
 -- ---- the file in use
 
--- a file that is read
-pub reads_at : (entries : List Entry) (file at : ℕ) (entry : Entry) → entry ≡ get_or entries file entry → is_placed (Reading file at) entries ≡ true → (slice_get entries file ≡ Some entry) × (at ≤ length (bytes_in entry))
-reads_at entries file at entry is placed =
-    let h = holds_true (λ e. nat_le at (length (bytes_in e))) (slice_get entries file) placed in
-    let same : entry ≡ h.0 = is ∙ get_or_from_slice_get entries file h.0 entry h.1 in
-    (h.1 ∙ ap (λ (x : Entry). Some x) (sym same), rw same (grind (arith, nat_tests, h.2)))
-
 -- a file that is written stands at the first place of its name
 pub writes_at : (entries : List Entry) (file : ℕ) (entry : Entry) → entry ≡ get_or entries file entry → is_placed (Writing file) entries ≡ true → StandsAt entry.name.items entries file entry
 writes_at entries file entry is placed =
@@ -123,12 +116,6 @@ writes_at entries file entry is placed =
       found = find_at (is_named entry.name.items) entries ∙ rw place here;
       named = refl;
     }
-
-pub index_reads : (entries : List Entry) (file at : ℕ) → is_placed (Reading file at) entries ≡ true → file < length entries
-index_reads entries file at placed = let h = holds_true (λ e. nat_le at (length (bytes_in e))) (slice_get entries file) placed in get_within entries file h.0 h.1
-
-pub index_writes : (entries : List Entry) (file : ℕ) → is_placed (Writing file) entries ≡ true → file < length entries
-index_writes entries file placed = let h = holds_true (λ e. position_or_len (is_named e.name.items) entries == file) (slice_get entries file) placed in get_within entries file h.0 h.1
 
 -- ---- an entry that is changed, under the same name
 
