@@ -5,4 +5,7 @@ pub mod PackedBits
 pub mod Windows
 pub mod ViewBits
 pub mod Faultless
-pub mod Pieces
+pub mod PackedPieces
+pub mod NumberBytes
+pub mod Prefixes
+pub mod LineWords

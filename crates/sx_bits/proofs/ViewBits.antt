@@ -17,12 +17,14 @@ length-bits_of v =
     omega arith
 
 -- a bit of a view is one of its line
-pub bit_of_view : (v : BitView) (i : ℕ) → i < v.to - v.from → get_or (bits_of v) i false ≡ (bit_at (get_or v.line.now ((v.from + i) / 8) 0) (7 - (v.from + i) % 8) == 1)
+pub bit_of_line_there : (v : BitView) (i : ℕ) → i < v.to - v.from → get_or (bits_of v) i false ≡ get_or (key_bits v.line.now) (v.from + i) false
 unfolding bits_of
-bit_of_view v i lt =
+bit_of_line_there v i lt =
     get_or-take (v.to - v.from) (drop v.from (key_bits v.line.now)) i false lt
     ∙ get_or-drop v.from (key_bits v.line.now) i false
-    ∙ bit_of_line v.line.now (v.from + i)
+
+pub bit_of_view : (v : BitView) (i : ℕ) → i < v.to - v.from → get_or (bits_of v) i false ≡ (bit_at (get_or v.line.now ((v.from + i) / 8) 0) (7 - (v.from + i) % 8) == 1)
+bit_of_view v i lt = bit_of_line_there v i lt ∙ bit_of_line v.line.now (v.from + i)
 
 -- a part of a part of a list
 part_of_part : {X : Type 0} (xs : List X) (f m a n : ℕ) → a + n ≤ m → take n (drop a (take m (drop f xs))) ≡ take n (drop (f + a) xs)

@@ -7,6 +7,7 @@ ghost use Rattle.sx_bits.specs.KeyLists.{passes, reason_of};
 
 use crate::fault::KeyFault;
 use crate::line::Line;
+use crate::pieces::Piece;
 use crate::view::BitView;
 use std::alloc::Global;
 use std::cmp::Ordering;
@@ -73,6 +74,7 @@ impl KeyList {
     ghost use Rattle.std.specs.Prelude.{◌<◌, [], ◌∷◌, ◌++◌, length, map, slice_get, Some, None, OnOk, OnErr, MatchResult};
     ghost use Rattle.sx_spec_strings.specs.Bits.{key_bits};
     ghost use Rattle.sx_bits.specs.KeyLists.{IsWithinStandard, IsKeyList};
+    ghost use Rattle.sx_bits.specs.Pieces.{IsPiece, piece_bits};
     ghost use Rattle.sx_bits.specs.Views.{bits_of};
 
     /// An empty list. No limit passes the standard one.
@@ -136,5 +138,14 @@ impl KeyList {
         ensures { slice_get (map key_bits self.now.lines) i ≡ Some (bits_of result) }
     {
         BitView::key_bits(self.get(i))
+    }
+
+    /// The bits of a piece that lies in the list, without its tag.
+    #[inline(always)]
+    pub fn piece(&self, p: &Piece) -> BitView<'_>
+        requires { IsPiece self.now.lines p.now }
+        ensures { bits_of result ≡ piece_bits self.now.lines p.now }
+    {
+        self.view(p.key).range(p.from, p.to)
     }
 }

@@ -5,10 +5,13 @@ mod fault;
 mod keys;
 mod line;
 mod packing;
+mod pieces;
 mod view;
+mod words;
 
 pub use fault::KeyFault;
 pub use keys::KeyList;
+pub use pieces::Piece;
 pub use sx_spec::Limits;
 pub use view::BitView;
 

@@ -20,7 +20,7 @@ pub(crate) fn clear_low(byte: u8, unused: u32) -> u8
 }
 
 /// Copies the line's bytes from byte `first` on.
-fn copy_bytes(line: &[u8], first: usize, out: &mut [u8])
+pub(crate) fn copy_bytes(line: &[u8], first: usize, out: &mut [u8])
     ensures { EachIndex out.new (λ k. slice_index out.new k ≡ slice_index line.now (first + k)) }
 {
     let first = first.min(line.len());

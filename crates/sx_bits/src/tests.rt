@@ -1,6 +1,7 @@
 //! Bit strings and key lists of a few bytes.
 
-use crate::{BitView, KeyFault, KeyList, Limits};
+use crate::{BitView, KeyFault, KeyList, Limits, Piece};
+use std::cmp::Ordering;
 use std::test::Fail;
 
 #[test]
@@ -25,6 +26,29 @@ fn packs_from_any_bit(rt: HostRuntime) -> Result<(), Fail> {
 }
 
 #[test]
+fn compares(rt: HostRuntime) -> Result<(), Fail> {
+    let ends = BitView::key_bits(b"a prefix");
+    let rows: [(&[u8], u32, Ordering); 5] = [
+        (b"a prefix", 72, Ordering::Equal),
+        (b"a prefix of it", 66, Ordering::Less),
+        (b"a prefiy", 63, Ordering::Less),
+        (b"a prefh", 55, Ordering::Greater),
+        (b"", 1, Ordering::Greater),
+    ];
+    for (line, common, order) in rows {
+        assert!(rt; line.len() < 20);
+        let other = BitView::key_bits(line);
+        assert_eq!(rt; ends.lcp(&other), common);
+        assert_eq!(rt; ends.order(&other), order);
+    }
+    assert_eq!(rt; ends.len(), 72);
+    let front = ends.prefix(70);
+    assert_eq!(rt; front.order(&ends), Ordering::Less);
+    assert_eq!(rt; front.lcp(&ends), 70);
+    Ok(())
+}
+
+#[test]
 fn refuses_the_first_fault(rt: HostRuntime) -> Result<(), Fail> {
     let limits = Limits {
         max_keys: 3,
@@ -40,7 +64,8 @@ fn refuses_the_first_fault(rt: HostRuntime) -> Result<(), Fail> {
     assert_eq!(rt; keys.push(b"\0"), Err(KeyFault::ZeroByte));
     assert_eq!(rt; keys.len(), 3);
     assert_eq!(rt; keys.get(2), b"c".as_slice());
-    assert_eq!(rt; keys.view(0).len(), 16);
+    let key = keys.view(0);
+    assert_eq!(rt; key.len(), 16);
     Ok(())
 }
 

@@ -3,6 +3,8 @@
 ghost use Rattle.std.specs.Prelude.{◌≡◌, ℕ, ◌+◌, ◌*◌, ◌≤◌, length};
 
 use crate::packing::{byte_or_zero, clear_low, copy_window};
+use crate::words::word_at;
+use std::cmp::Ordering;
 
 /// How many bits a piece of a view has at most.
 const PIECE: u32 = 512;
@@ -21,8 +23,9 @@ pub struct BitView<'a> {
 
 impl<'a> BitView<'a> {
     ghost use Rattle.std.specs.Prelude.{◌-◌, ◌<◌, take, drop, min};
-    ghost use Rattle.std.specs.Int.{div_ceil};
-    ghost use Rattle.sx_spec_strings.specs.Bits.{bit_at, key_bits, packed_bytes};
+    ghost use Rattle.std.specs.Prelude.{◌==◌};
+    ghost use Rattle.std.specs.Int.{div_ceil, bit_at as number_bit};
+    ghost use Rattle.sx_spec_strings.specs.Bits.{bit_at, bits_cmp, common_prefix, key_bits, packed_bytes};
     ghost use Rattle.sx_bits.specs.Views.{bits_of};
 
     /// The bits of a line's bytes, and then eight zero bits. The line has at most 8,191 bytes.
@@ -96,5 +99,46 @@ impl<'a> BitView<'a> {
             from: self.from + from,
             to: self.from + to,
         }
+    }
+
+    /// The bits of the line from bit `at` of the string on, 64 of them. `at` is at most the length.
+    #[inline(always)]
+    fn word(&self, at: u32) -> u64
+        requires { at ≤ length (bits_of self.now) }
+        ensures { (j : ℕ) → j < 64 → at + j < length (bits_of self.now)
+            → (number_bit result (63 - j) == 1) ≡ bit_at (bits_of self.now) (at + j) }
+    {
+        word_at(self.line, self.from + at)
+    }
+
+    /// The length of the longest common prefix.
+    pub fn lcp(&self, other: &BitView<'_>) -> u32
+        ensures { result ≡ length (common_prefix (bits_of self.now) (bits_of other.now)) }
+    {
+        let most = self.len().min(other.len());
+        let mut at = 0;
+        while at < most {
+            let apart = self.word(at) ^ other.word(at);
+            if apart != 0 {
+                return (at + apart.leading_zeros()).min(most);
+            }
+            at += 64;
+        }
+        most
+    }
+
+    /// The lexicographic order, where a proper prefix is below.
+    pub fn order(&self, other: &BitView<'_>) -> Ordering
+        ensures { result ≡ bits_cmp (bits_of self.now) (bits_of other.now) }
+    {
+        let common = self.lcp(other);
+        if common < self.len().min(other.len()) {
+            // the first bits that differ
+            if other.bit(common) {
+                return Ordering::Less;
+            }
+            return Ordering::Greater;
+        }
+        self.len().cmp(&other.len())
     }
 }

@@ -4,7 +4,7 @@ use Rattle.std.specs.Int.{div_ceil}
 use Rattle.std.proofs.lemmas.List.{length-append, length-take, length-drop, get_or_append_left, length-set, set-append_left, take_at}
 use Rattle.sx_bits.specs.Views.{bits_of}
 use Rattle.sx_bits.proofs.ViewBits.{length-bits_of}
-use Rattle.sx_bits.proofs.Pieces.{piece, length-piece, full_piece, partial_piece}
+use Rattle.sx_bits.proofs.PackedPieces.{piece, length-piece, full_piece, partial_piece}
 use Rattle.sx_bits.proofs.view.BitView.fill.Goals as goal
 
 pub overflow_add-start : goal.overflow_add-start
