@@ -1,0 +1,225 @@
+-- Where the walk of a string ends is its exit.
+use Rattle.std.proofs.Common.{◌≡◌, ℕ, zero, suc, ◌+◌, ◌-◌, ◌<◌, ◌≤◌, Bool, true, false, List, [], ◌∷◌, ◌++◌, length, get_or, take, refl, sym, ap, ap₂, subst, ◌∙◌, arith, inl, inr}
+use Rattle.std.specs.Prelude.{count_by, not}
+use Rattle.std.specs.List.{list_all, position_or_len}
+use Rattle.std.proofs.lemmas.Bool.{cases_Bool, cases_lt, cases_eq, false_from_ne_true}
+use Rattle.std.proofs.lemmas.List.{length-take-le}
+use Rattle.sx_spec_strings.specs.Bits.{Bits, AreKeyBits, bit_at, bits_eq, begins_with, common_prefix, common_prefix_of, is_below, is_proper_prefix}
+use Rattle.sx_spec_strings.specs.Ordered.{IsIn, IsRising}
+use Rattle.sx_spec_strings.proofs.BitLaws.{begins_trans, begins_length, begins_shorter, begins_between, begins_both, begins_not_below, below_asym, below_total, below_irrefl, common_begins_left, common_begins_right, common_longest, proper_parts, proper_from, whole_or_proper}
+use Rattle.sx_spec_strings.proofs.OrderedLaws.{rising_first, rising_rest}
+use Rattle.sx_spec_kinds.specs.Trie.{Exit, Place, inner, leaf, extents_of, under, name_len, place_of, exit_of}
+use Rattle.sx_spec_kinds.specs.Hollow.{Stand}
+use Rattle.sx_spec_kinds.proofs.NameLaws.{begins_take, in_at, bits_same, bits_eq_refl, name_len_above, name_len_from}
+use Rattle.sx_spec_kinds.proofs.TrieLaws.{extents_rising, extents_trie, common_extent}
+use Rattle.sx_spec_kinds.proofs.CountLaws.{count_some, length-under, in_under, under_from}
+use Rattle.sx_spec_kinds.proofs.ChildLaws.{parts, begins_longer}
+use Rattle.sx_spec_kinds.proofs.LcpLaws.{begins_common_of, common_of_longest}
+use Rattle.sx_spec_kinds.proofs.HollowLaws.{IsFirst, StandsAt, first_here, key_under, extents_under}
+use Rattle.sx_spec_kinds.proofs.ExactBlock.{all_at, some_at}
+use Rattle.sx_trie.proofs.Delimiters.{in_range, parted_prefix}
+use Rattle.sx_trie.proofs.Stands.{extent_at, under_at}
+
+-- an element of a rising list is found at its place
+found_at : (es : List Bits) → IsRising is_below es → (i : ℕ) → i < length es → position_or_len (λ q. bits_eq q (get_or es i [])) es ≡ i
+found_at [] rising i inside = absurd (omega arith)
+found_at (z ∷ zs) rising zero inside = rw (bits_eq_refl z) refl
+found_at (z ∷ zs) rising (suc i) inside =
+    let g = get_or zs i [] in
+    let less = rising_first z zs rising g (in_at zs i (omega arith)) in
+    let other : bits_eq z g ≡ false = false_from_ne_true (bits_eq z g) (λ e.
+      let same = bits_same z g e in
+      let again : is_below g g ≡ true = rw same at less in
+      let none = below_irrefl g in
+      cc) in
+    let e : 1 + i ≡ suc i = omega arith in
+    rw other (ap (λ n. 1 + n) (found_at zs (rising_rest z zs rising) i (omega arith)) ∙ e)
+
+place_one : (extents : List Bits) (first : ℕ) (G : List Bits) → length G ≡ 1 → place_of extents first G ≡ leaf first
+place_one extents first [] one = absurd (omega arith)
+place_one extents first (d ∷ []) one = refl
+place_one extents first (d ∷ e ∷ G) one = absurd (omega arith)
+
+place_more : (extents : List Bits) (first : ℕ) (G : List Bits) → 1 < length G → place_of extents first G ≡ inner (position_or_len (λ q. bits_eq q (common_prefix_of G)) extents)
+place_more extents first [] more = absurd (omega arith)
+place_more extents first (d ∷ []) more = absurd (omega arith)
+place_more extents first (d ∷ e ∷ G) more = refl
+
+common_longest_of : (G : List Bits) (s : Bits) → 0 < length G → ((d : Bits) → IsIn G d → begins_with d s ≡ true) → begins_with (common_prefix_of G) s ≡ true
+common_longest_of [] s some each = absurd (omega arith)
+common_longest_of (d ∷ G) s some each = common_of_longest d G s each
+
+module _ (ds : List Bits) (keys : AreKeyBits ds) (x : Bits) (s : Stand) (h : StandsAt ds keys x s) where
+  abbrev name : Bits
+  name = take s.pos x
+
+  long_name : length name ≡ s.pos
+  long_name = length-take-le s.pos x h.inside
+
+  -- the name is the longest that an extent gives the string
+  name_is : ((f : Bits) → IsIn (extents_of ds) f → is_proper_prefix f x ≡ true → length f < s.pos) → name_len (extents_of ds) x ≡ s.pos
+  name_is shorter =
+      elim (cases_lt s.pos (name_len (extents_of ds) x)) [
+        | inl over ↦
+          let (f, there, proper, size) = name_len_from (extents_of ds) x (omega arith) in
+          let short = shorter f there proper in
+          absurd (omega arith)
+        | inr under ↦
+          elim h.parent [
+            | inl none ↦ omega arith
+            | inr there ↦
+              elim (cases_eq s.pos 0) [
+                | inl none ↦ omega arith
+                | inr some ↦
+                  let inside = h.inside in
+                  let short = length-take-le (s.pos - 1) x (omega arith) in
+                  let above = name_len_above (extents_of ds) (take (s.pos - 1) x) x there (proper_from (take (s.pos - 1) x) x (begins_take (s.pos - 1) x) (omega arith)) in
+                  omega arith
+              ]
+          ]
+      ]
+
+  module _ (named : name_len (extents_of ds) x ≡ s.pos) where
+    first_under : s.first < length ds → begins_with (get_or ds s.first []) name ≡ true
+    first_under inside =
+        let a = h.first in
+        let b = h.leaves in
+        let some = h.some in
+        in_range ds keys name s.first inside (omega arith) (omega arith)
+
+    -- of the delimiters under the name all are below the string or none
+    all_or_none : (d g : Bits) → IsIn ds d → IsIn ds g → begins_with d name ≡ true → begins_with g name ≡ true → is_below d x ≡ true → is_below g x ≡ true
+    all_or_none d g i j d_p g_p less =
+        elim (cases_Bool (is_below g x)) [
+          | inl also ↦ also
+          | inr more ↦
+            let differ : d ≡ g → ⊥ = λ same. (let again : is_below g x ≡ true = rw same at less in cc) in
+            let m = common_prefix d g in
+            let there = common_extent ds d g keys i j differ in
+            let x_m = begins_between d x g m (below_asym d x less) more (common_begins_left d g) (common_begins_right d g) in
+            let long = begins_length m name (common_longest d g name d_p g_p) in
+            let size = long_name in
+            elim (whole_or_proper m x x_m) [
+              | inl same ↦
+                let d_x : begins_with d x ≡ true = rw same at (common_begins_left d g) in
+                let none = begins_not_below d x d_x in
+                cc
+              | inr proper ↦ let above = name_len_above (extents_of ds) m x there proper in absurd (omega arith)
+            ]
+        ]
+
+    right_is : s.first < length ds → list_all (λ d. is_below d x) (under ds name) ≡ is_below (get_or ds s.first []) x
+    right_is inside =
+        let first = get_or ds s.first [] in
+        let there = in_at ds s.first inside in
+        let begins = first_under inside in
+        elim (cases_Bool (list_all (λ d. is_below d x) (under ds name))) [
+          | inl all ↦ let one = all_at (λ d. is_below d x) (under ds name) first all (in_under ds name first there begins) in cc
+          | inr some ↦
+            let (d, i, not) = some_at (λ d. is_below d x) (under ds name) some in
+            let (d_there, d_begins) = under_from ds name d i in
+            let none : is_below first x ≡ false = false_from_ne_true (is_below first x) (λ less.
+              let also = all_or_none first d there d_there begins d_begins less in
+              cc) in
+            cc
+        ]
+
+    exit_at : (p : Place) → s.first < length ds → place_of (extents_of ds) s.first (under ds name) ≡ p → record { place = p; right = is_below (get_or ds s.first []) x } ≡ exit_of ds x
+    unfolding exit_of
+    exit_at p inside place =
+        let below : s.first ≡ count_by (λ d. is_below d name) ds = h.first in
+        let e : take (name_len (extents_of ds) x) x ≡ name = ap (λ n. take n x) named in
+        rw (e, ← below, place, right_is inside) refl
+
+  -- ---- a leaf
+
+  pub exit_at_leaf : s.first < length ds → s.leaves ≡ 1 → record { place = leaf s.first; right = is_below (get_or ds s.first []) x } ≡ exit_of ds x
+  exit_at_leaf inside one =
+      let named = name_is (λ f there proper.
+        elim (cases_lt (length f) s.pos) [
+          | inl short ↦ short
+          | inr long ↦
+            let size = long_name in
+            let begins = begins_shorter x name f (begins_take s.pos x) (proper_parts f x proper).0 (omega arith) in
+            let some = count_some (λ g. begins_with g name) (extents_of ds) f there begins in
+            let none = extents_under ds name keys in
+            let leaves = h.leaves in
+            absurd (omega arith)
+        ]) in
+      let under_size = length-under ds name in
+      let leaves = h.leaves in
+      exit_at named (leaf s.first) inside (place_one (extents_of ds) s.first (under ds name) (omega arith))
+
+  -- ---- an inner node
+
+  module _ (more : 1 < s.leaves) where
+    first_extent : IsFirst (extents_of ds) name (extent_at ds s)
+    first_extent = first_here ds keys x s h more
+
+    under_extent : (g : Bits) → IsIn (extents_of ds) g → begins_with g name ≡ true → begins_with g (extent_at ds s) ≡ true
+    under_extent g i b =
+        let e = extent_at ds s in
+        let f = first_extent in
+        let common = (extents_trie ds keys).closed g e i f.there in
+        let begins = common_longest g e name b f.begins in
+        let not_less = f.least (common_prefix g e) common begins in
+        let not_more = begins_not_below e (common_prefix g e) (common_begins_right g e) in
+        let same = below_total (common_prefix g e) e not_less not_more in
+        rw same at (common_begins_left g e)
+
+    -- all delimiters there have just the extent in common
+    common_is : common_prefix_of (under ds name) ≡ extent_at ds s
+    common_is =
+        let e = extent_at ds s in
+        let f = first_extent in
+        let q = common_prefix_of (under ds name) in
+        let size = length-under ds name in
+        let leaves = h.leaves in
+        let p = parts ds keys e f.there in
+        let left_e = begins_longer p.left e false p.left_begins in
+        let right_e = begins_longer p.right e true p.right_begins in
+        let left_in = in_under ds name p.left p.left_there (begins_trans p.left e name left_e f.begins) in
+        let right_in = in_under ds name p.right p.right_there (begins_trans p.right e name right_e f.begins) in
+        let q_e = common_longest_of (under ds name) e (omega arith) (λ d i.
+          let (there, begins) = under_from ds name d i in
+          key_under ds keys x name e d f (omega arith) there begins) in
+        let both = common_longest p.left p.right q (begins_common_of (under ds name) p.left left_in) (begins_common_of (under ds name) p.right right_in) in
+        let e_q : begins_with e q ≡ true = rw (parted_prefix p.left p.right e p.left_begins p.right_begins) at both in
+        begins_both q e q_e e_q
+
+    pub exit_at_inner : s.first < length ds → (begins_with x (extent_at ds s) ≡ true → length (extent_at ds s) < length x → ⊥)
+        → record { place = inner s.node; right = is_below (get_or ds s.first []) x } ≡ exit_of ds x
+    exit_at_inner inside stops =
+        let e = extent_at ds s in
+        let f = first_extent in
+        let named = name_is (λ g there proper.
+          elim (cases_lt (length g) s.pos) [
+            | inl short ↦ short
+            | inr long ↦
+              let size = long_name in
+              let (x_g, less) = proper_parts g x proper in
+              let begins = begins_shorter x name g (begins_take s.pos x) x_g (omega arith) in
+              let g_e = under_extent g there begins in
+              let shorter = begins_length g e g_e in
+              absurd (stops (begins_trans x g e x_g g_e) (omega arith))
+          ]) in
+        let size = length-under ds name in
+        let leaves = h.leaves in
+        let node = h.node in
+        let there = f.inside in
+        exit_at named (inner s.node) inside
+          (place_more (extents_of ds) s.first (under ds name) (omega arith)
+          ∙ ap (λ q. inner (position_or_len (λ g. bits_eq g q) (extents_of ds))) common_is
+          ∙ ap inner (found_at (extents_of ds) (extents_rising ds) s.node (omega arith)))
+
+-- ---- the test whether a walk goes on
+
+-- where a delimiter and the string share no whole extent, the string doesn't begin with it
+pub walk_stops : (d x e : Bits) → begins_with d e ≡ true → length (common_prefix d x) < length e → begins_with x e ≡ true → ⊥
+walk_stops d x e d_e short x_e =
+    let long = begins_length (common_prefix d x) e (common_longest d x e d_e x_e) in
+    absurd (omega arith)
+
+pub walk_goes_on : (d x e : Bits) → begins_with d e ≡ true → length e ≤ length (common_prefix d x) → begins_with x e ≡ true
+walk_goes_on d x e d_e long =
+    begins_trans x (common_prefix d x) e (common_begins_right d x) (begins_shorter d e (common_prefix d x) d_e (common_begins_left d x) long)

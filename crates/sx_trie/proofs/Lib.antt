@@ -1,0 +1,4 @@
+pub mod HighBits
+pub mod Delimiters
+pub mod Stands
+pub mod ExitWalk
