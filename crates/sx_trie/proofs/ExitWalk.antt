@@ -1,12 +1,15 @@
 -- Where the walk of a string ends is its exit.
 use Rattle.std.proofs.Common.{◌≡◌, ℕ, zero, suc, ◌+◌, ◌-◌, ◌<◌, ◌≤◌, Bool, true, false, List, [], ◌∷◌, ◌++◌, length, get_or, take, refl, sym, ap, ap₂, subst, ◌∙◌, arith, inl, inr}
-use Rattle.std.specs.Prelude.{count_by, not}
+use Rattle.std.specs.Prelude.{count_by, not, ◌⊎◌}
 use Rattle.std.specs.List.{list_all, position_or_len}
 use Rattle.std.proofs.lemmas.Bool.{cases_Bool, cases_lt, cases_eq, false_from_ne_true}
 use Rattle.std.proofs.lemmas.List.{length-take-le}
-use Rattle.sx_spec_strings.specs.Bits.{Bits, AreKeyBits, bit_at, bits_eq, begins_with, common_prefix, common_prefix_of, is_below, is_proper_prefix}
+use Rattle.sx_spec_strings.specs.Bits.{Bits, AreKeyBits, bit_at, bits_cmp, bits_eq, begins_with, common_prefix, common_prefix_of, is_below, is_proper_prefix}
 use Rattle.sx_spec_strings.specs.Ordered.{IsIn, IsRising}
 use Rattle.sx_spec_strings.proofs.BitLaws.{begins_trans, begins_length, begins_shorter, begins_between, begins_both, begins_not_below, below_asym, below_total, below_irrefl, common_begins_left, common_begins_right, common_longest, proper_parts, proper_from, whole_or_proper}
+use Rattle.std.specs.declared.cmp.Ordering.{Ordering}
+use Rattle.std.specs.Ordering.{is_lt}
+use Rattle.sx_spec_strings.proofs.KeyBits.{tests_are_the_order}
 use Rattle.sx_spec_strings.proofs.OrderedLaws.{rising_first, rising_rest}
 use Rattle.sx_spec_kinds.specs.Trie.{Exit, Place, inner, leaf, extents_of, under, name_len, place_of, exit_of}
 use Rattle.sx_spec_kinds.specs.Hollow.{Stand}
@@ -15,10 +18,10 @@ use Rattle.sx_spec_kinds.proofs.TrieLaws.{extents_rising, extents_trie, common_e
 use Rattle.sx_spec_kinds.proofs.CountLaws.{count_some, length-under, in_under, under_from}
 use Rattle.sx_spec_kinds.proofs.ChildLaws.{parts, begins_longer}
 use Rattle.sx_spec_kinds.proofs.LcpLaws.{begins_common_of, common_of_longest}
-use Rattle.sx_spec_kinds.proofs.HollowLaws.{IsFirst, StandsAt, first_here, key_under, extents_under}
+use Rattle.sx_spec_kinds.proofs.HollowLaws.{IsFirst, StandsAt, stands_start, first_here, key_under, extents_under}
 use Rattle.sx_spec_kinds.proofs.ExactBlock.{all_at, some_at}
 use Rattle.sx_trie.proofs.Delimiters.{in_range, parted_prefix}
-use Rattle.sx_trie.proofs.Stands.{extent_at, under_at}
+use Rattle.sx_trie.proofs.Stands.{extent_at, left_at, at_child, under_at, on_child, Found}
 
 -- an element of a rising list is found at its place
 found_at : (es : List Bits) → IsRising is_below es → (i : ℕ) → i < length es → position_or_len (λ q. bits_eq q (get_or es i [])) es ≡ i
@@ -214,12 +217,65 @@ module _ (ds : List Bits) (keys : AreKeyBits ds) (x : Bits) (s : Stand) (h : Sta
 
 -- ---- the test whether a walk goes on
 
--- where a delimiter and the string share no whole extent, the string doesn't begin with it
-pub walk_stops : (d x e : Bits) → begins_with d e ≡ true → length (common_prefix d x) < length e → begins_with x e ≡ true → ⊥
-walk_stops d x e d_e short x_e =
+-- where the walk ends at an inner node, the extent is no proper prefix of the string
+pub walk_stops : (d x e : Bits) (extent : ℕ) → extent ≡ length e → begins_with d e ≡ true → (length x ≤ extent) ⊎ (length (common_prefix d x) < extent)
+    → begins_with x e ≡ true → length e < length x → ⊥
+walk_stops d x e extent is d_e (inl short) x_e longer = absurd (omega arith)
+walk_stops d x e extent is d_e (inr short) x_e longer =
     let long = begins_length (common_prefix d x) e (common_longest d x e d_e x_e) in
     absurd (omega arith)
 
 pub walk_goes_on : (d x e : Bits) → begins_with d e ≡ true → length e ≤ length (common_prefix d x) → begins_with x e ≡ true
 walk_goes_on d x e d_e long =
     begins_trans x (common_prefix d x) e (common_begins_right d x) (begins_shorter d e (common_prefix d x) d_e (common_begins_left d x) long)
+
+-- ---- the start and the steps of a walk
+
+-- a walk stands somewhere, after some name
+abbrev pub Walks : (ds : List Bits) (keys : AreKeyBits ds) (x : Bits) (at leaves first : ℕ) → Type 0
+Walks ds keys x at leaves first = (name : ℕ) × StandsAt ds keys x (record { node = at; leaves = leaves; first = first; pos = name })
+
+pub walk_starts : (ds : List Bits) (keys : AreKeyBits ds) (x : Bits) (leaves : ℕ) → leaves ≡ length ds → 0 < length ds → Walks ds keys x 0 leaves 0
+walk_starts ds keys x leaves all some = subst (λ n. Walks ds keys x 0 n 0) (sym all) (0, stands_start ds keys x some)
+
+module _ (ds : List Bits) (keys : AreKeyBits ds) (x : Bits) (s : Stand) (h : StandsAt ds keys x s) (more : 1 < s.leaves)
+    (extent first middle after : ℕ) (node : Found ds s extent first middle after) (inside : s.first + s.leaves ≤ length ds)
+    (longer : extent < length x) (shares : extent ≤ length (common_prefix (get_or ds s.first []) x)) where
+  child_stands : StandsAt ds keys x (at_child s (left_at ds s) (length (extent_at ds s)) (bit_at x (length (extent_at ds s))))
+  child_stands =
+      let is = node.extent_is in
+      let d_e = under_at ds keys x s h more s.first (omega arith) (omega arith) (omega arith) in
+      let x_e = walk_goes_on (get_or ds s.first []) x (extent_at ds s) d_e (omega arith) in
+      on_child ds keys x s h more x_e (omega arith)
+
+  pub walk_right : bit_at x extent ≡ true → Walks ds keys x (s.node + (middle - first)) (after - middle) middle
+  walk_right bit =
+      let l = left_at ds s in
+      let p = length (extent_at ds s) in
+      let b : bit_at x p ≡ true = ap (bit_at x) (sym node.extent_is) ∙ bit in
+      let a = node.first_is in
+      let m = node.middle_is in
+      let e = node.after_is in
+      let n1 : s.node + l ≡ s.node + (middle - first) = omega arith in
+      let n2 : s.leaves - l ≡ after - middle = omega arith in
+      let n3 : s.first + l ≡ middle = omega arith in
+      (p + 1, subst (StandsAt ds keys x)
+        (ap (at_child s l p) b ∙ (λ i. record { node = n1 i; leaves = n2 i; first = n3 i; pos = p + 1 }))
+        child_stands)
+
+  pub walk_left : bit_at x extent ≡ false → Walks ds keys x (s.node + 1) (middle - first) s.first
+  walk_left bit =
+      let l = left_at ds s in
+      let p = length (extent_at ds s) in
+      let b : bit_at x p ≡ false = ap (bit_at x) (sym node.extent_is) ∙ bit in
+      let a = node.first_is in
+      let m = node.middle_is in
+      let n2 : l ≡ middle - first = omega arith in
+      (p + 1, subst (StandsAt ds keys x)
+        (ap (at_child s l p) b ∙ (λ i. record { node = s.node + 1; leaves = n2 i; first = s.first; pos = p + 1 }))
+        child_stands)
+
+-- ---- what stands to the right of a delimiter
+
+pub right_by_order : (d x : Bits) (order : Ordering) (right : Bool) → order ≡ bits_cmp d x → right ≡ is_lt order → right ≡ is_below d x
+right_by_order d x order right is r = r ∙ ap is_lt is ∙ sym (tests_are_the_order.below d x)

@@ -2,3 +2,4 @@ pub mod HighBits
 pub mod Delimiters
 pub mod Stands
 pub mod ExitWalk
+pub mod Entries

@@ -2,10 +2,10 @@
 use Rattle.std.proofs.Common.{◌≡◌, ℕ, zero, suc, ◌+◌, ◌-◌, ◌<◌, ◌≤◌, Bool, true, false, List, [], ◌∷◌, ◌++◌, length, get_or, take, refl, sym, ap, subst, ◌∙◌, arith, inl, inr}
 use Rattle.std.specs.Prelude.{count_by, if◌then◌else◌, slice_index}
 use Rattle.std.proofs.lemmas.Bool.{cases_Bool, cases_lt}
-use Rattle.std.proofs.lemmas.List.{length-append}
+use Rattle.std.proofs.lemmas.List.{length-append, get_or-map}
 use Rattle.sx_spec_strings.specs.Bits.{Bits, AreKeyBits, bit_at, begins_with, common_prefix, is_below}
 use Rattle.sx_spec_strings.proofs.BitLaws.{begins_whole}
-use Rattle.sx_spec_kinds.specs.Trie.{Node, extents_of, node_of, name_len}
+use Rattle.sx_spec_kinds.specs.Trie.{Node, no_node, node_at, nodes_of, extents_of, node_of, name_len}
 use Rattle.sx_spec_kinds.specs.Hollow.{Stand, Walk, goes, lost, child, descend, left_counts, skips}
 use Rattle.sx_spec_kinds.proofs.NameLaws.{in_at}
 use Rattle.sx_spec_kinds.proofs.CountLaws.{length-under, count_some}
@@ -37,7 +37,7 @@ abbrev pub left_at : List Bits → Stand → ℕ
 left_at ds s = count_by (λ d. begins_with d (extent_at ds s ++ false ∷ [])) ds
 
 module _ (ds : List Bits) (keys : AreKeyBits ds) (k : Bits) (s : Stand) (h : StandsAt ds keys k s) where
-  node_inside : 1 < s.leaves → s.node < length (extents_of ds)
+  pub node_inside : 1 < s.leaves → s.node < length (extents_of ds)
   node_inside more = let f = first_here ds keys k s h more in let a = f.inside in let b = h.node in omega arith
 
   pub on_child : 1 < s.leaves → begins_with k (extent_at ds s) ≡ true → length (extent_at ds s) < length k
@@ -178,3 +178,35 @@ module _ (ds : List Bits) (keys : AreKeyBits ds) (k : Bits) (s : Stand) (h : Sta
               | inr same ↦ omega arith
             ]
         ]
+
+-- ---- the node that a trie has there
+
+-- the node at a stand, of the list of all nodes
+pub node_here : (ds : List Bits) (keys : AreKeyBits ds) (k : Bits) (s : Stand) (h : StandsAt ds keys k s) (more : 1 < s.leaves) (nodes : List Node) → nodes ≡ nodes_of ds
+    → node_at nodes s.node ≡ record { extent = length (extent_at ds s); first = s.first; middle = s.first + left_at ds s; after = s.first + s.leaves }
+node_here ds keys k s h more nodes all =
+    ap (λ ns. node_at ns s.node) all
+    ∙ get_or-map (node_of ds) (extents_of ds) s.node [] no_node (node_inside ds keys k s h more)
+    ∙ node_is ds keys k s h more
+
+-- what a walk finds in a node
+pub record Found (ds : List Bits) (s : Stand) (extent first middle after : ℕ) : Type 0 where
+  pub extent_is : extent ≡ length (extent_at ds s)
+  pub first_is : first ≡ s.first
+  pub middle_is : middle ≡ s.first + left_at ds s
+  pub after_is : after ≡ s.first + s.leaves
+  pub left_some : 0 < left_at ds s
+  pub left_less : left_at ds s < s.leaves
+
+pub found : (ds : List Bits) (keys : AreKeyBits ds) (k : Bits) (s : Stand) (h : StandsAt ds keys k s) (more : 1 < s.leaves) (nodes : List Node) → nodes ≡ nodes_of ds
+    → (n : Node) → n ≡ node_at nodes s.node → Found ds s n.extent n.first n.middle n.after
+found ds keys k s h more nodes all n is =
+    let e = is ∙ node_here ds keys k s h more nodes all in
+    record {
+      extent_is = ap (λ (m : Node). m.extent) e;
+      first_is = ap (λ (m : Node). m.first) e;
+      middle_is = ap (λ (m : Node). m.middle) e;
+      after_is = ap (λ (m : Node). m.after) e;
+      left_some = left_some ds keys k s h more;
+      left_less = left_less ds keys k s h more;
+    }

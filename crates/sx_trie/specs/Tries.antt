@@ -48,8 +48,9 @@ pub record IsTrieOf (lines : List (List ℕ)) (t : Contents) : Type 0 where
   pub nodes : t.nodes ≡ spec.nodes_of (delimiter_bits lines t.delimiters)
   pub names : t.names ≡ map (spec.name_len (spec.extents_of (delimiter_bits lines t.delimiters))) (spec.extents_of (delimiter_bits lines t.delimiters))
 
--- there are few nodes, and each name but the root's ends within its extent and has a bit
+-- there are few leaves and nodes, and each name but the root's ends within its extent and has a bit
 pub record IsFit (t : Contents) : Type 0 where
+  pub leaves : length t.delimiters < 2 ^ 32
   pub few : length t.nodes < 2 ^ 32
   pub names : (i : ℕ) → 1 ≤ i → i < length t.nodes → (1 ≤ slice_index t.names i) × (slice_index t.names i ≤ (spec.node_at t.nodes i).extent)
 

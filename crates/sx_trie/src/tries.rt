@@ -1,10 +1,13 @@
 //! The trie of delimiters, as the list of its inner nodes in preorder.
 
-ghost use Rattle.std.specs.Prelude.{◌≡◌, ◌+◌, ◌-◌, ◌<◌, ◌≤◌, length, slice_get, slice_index, Some};
+ghost use Rattle.std.specs.Prelude.{◌≡◌, ◌⊎◌, ◌+◌, ◌-◌, ◌<◌, ◌≤◌, length, slice_index};
+ghost use Rattle.std.specs.Bool.{MatchBool};
+ghost use Rattle.sx_spec_strings.specs.Bits.{common_prefix};
 ghost use Rattle.sx_spec_kinds.specs.Fattest.{fattest as fattest_of};
-ghost use Rattle.sx_spec_kinds.specs.Trie.{node_at, block_at_exit, exit_of as exit_in};
+ghost use Rattle.sx_spec_kinds.specs.Trie.{node_at, leaves_at, block_at_exit, exit_of as exit_in};
 ghost use Rattle.sx_bits.specs.Views.{bits_of};
 
+use crate::building::view_of;
 use crate::exits::{Exit, Place};
 use crate::handles::fattest;
 use crate::nodes::{Entry, Node};
@@ -30,7 +33,7 @@ impl Model for Trie {
 }
 
 impl Trie {
-    ghost use Rattle.sx_trie.specs.Tries.{node_of, exit_of, delimiter_bits, IsTrieOf, IsPlaceOf};
+    ghost use Rattle.sx_trie.specs.Tries.{node_of, place_of, exit_of, delimiter_bits, IsTrieOf, IsPlaceOf};
 
     /// How many inner nodes there are: one less than delimiters, or 0.
     #[inline(always)]
@@ -82,9 +85,8 @@ impl Trie {
         let mut after = self.delimiters.len() as u32;
         while after - first > 1 {
             let node = self.node(at);
-            let length = view.len();
-            let delimiter = keys.view(self.delimiters[first as usize]);
-            if length <= node.extent || delimiter.lcp(view) < node.extent {
+            let delimiter = view_of(keys, &self.delimiters, first);
+            if !goes_on(&delimiter, view, node.extent) {
                 return Exit {
                     place: Place::Inner(at),
                     right: delimiter.order(view).is_lt(),
@@ -98,7 +100,7 @@ impl Trie {
                 after = node.middle;
             }
         }
-        let delimiter = keys.view(self.delimiters[first as usize]);
+        let delimiter = view_of(keys, &self.delimiters, first);
         Exit {
             place: Place::Leaf(first),
             right: delimiter.order(view).is_lt(),
@@ -111,13 +113,39 @@ impl Trie {
         requires { IsPlaceOf self.now e.now.place }
         ensures { result ≡ block_at_exit self.now.nodes (exit_of e.now) }
     {
-        let (first, after) = match e.place {
-            Place::Inner(i) => {
-                let node = self.node(i);
-                (node.first, node.after)
-            }
-            Place::Leaf(j) => (j, j + 1),
-        };
+        let (first, after) = self.leaves(&e.place);
         if e.right { after } else { first }
     }
+
+    /// The leaves at a place of this trie, from the first up to before the second.
+    #[inline(always)]
+    fn leaves(&self, place: &Place) -> (u32, u32)
+        requires { IsPlaceOf self.now place.now }
+        ensures { (result.0, result.1) ≡ leaves_at self.now.nodes (place_of place.now) }
+    {
+        match place {
+            Place::Inner(i) => {
+                let node = self.node(*i);
+                (node.first, node.after)
+            }
+            Place::Leaf(j) => {
+                let _count = self.delimiters.len();
+                (*j, *j + 1)
+            }
+        }
+    }
+}
+
+/// Whether a walk goes on from a node with an extent of this length, under which the delimiter
+/// stands: whether the extent is a proper prefix of the string.
+#[inline(always)]
+fn goes_on(delimiter: &BitView<'_>, view: &BitView<'_>, extent: u32) -> bool
+    ensures { MatchBool result
+        ((extent < length (bits_of view.now)) × (extent ≤ length (common_prefix (bits_of delimiter.now) (bits_of view.now))))
+        ((length (bits_of view.now) ≤ extent) ⊎ (length (common_prefix (bits_of delimiter.now) (bits_of view.now)) < extent)) }
+{
+    if view.len() <= extent {
+        return false;
+    }
+    extent <= delimiter.lcp(view)
 }
