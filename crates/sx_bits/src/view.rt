@@ -113,7 +113,8 @@ impl<'a> BitView<'a> {
 
     /// The length of the longest common prefix.
     pub fn lcp(&self, other: &BitView<'_>) -> u32
-        ensures { result ≡ length (common_prefix (bits_of self.now) (bits_of other.now)) }
+        ensures value { result ≡ length (common_prefix (bits_of self.now) (bits_of other.now)) }
+        ensures bound { result ≤ 65536 }
     {
         let most = self.len().min(other.len());
         let mut at = 0;

@@ -15,8 +15,8 @@ loop-at-preserved c = λ j lt near.
     agree_more x y c.loop-at.at c.word.result c.word-in-loop-at.result c.word.ensures c.word-in-loop-at.ensures
     (λ k a b. c.loop-at.invariant k a (omega arith)) c.if-apart-ne0.false j lt (omega arith)
 
-pub returns-then-apart-ne0 : goal.returns-then-apart-ne0
-returns-then-apart-ne0 c =
+pub returns-then-apart-ne0-clause-value : goal.returns-then-apart-ne0-clause-value
+returns-then-apart-ne0-clause-value c =
     let x = bits_of c.args.self.now in
     let y = bits_of c.args.other.now in
     let lx = c.len.ensures.value in
@@ -25,8 +25,8 @@ returns-then-apart-ne0 c =
     parted x y c.loop-at.at c.word.result c.word-in-loop-at.result c.word.ensures c.word-in-loop-at.ensures
     (λ k a b. c.loop-at.invariant k a (omega arith)) _ (omega arith) (xor_lt 64 c.word.result c.word-in-loop-at.result (omega arith) (omega arith)) (omega arith) (omega arith)
 
-pub returns : goal.returns
-returns c =
+pub returns-clause-value : goal.returns-clause-value
+returns-clause-value c =
     let x = bits_of c.args.self.now in
     let y = bits_of c.args.other.now in
     let lx = c.len.ensures.value in

@@ -13,7 +13,7 @@ returns-then-bit c =
     let lx = c.len.ensures.value in
     let ly = c.len-2.ensures.value in
     ap (λ (b : Bool). if b then Less else Greater) (sym c.if-bit.true)
-    ∙ parted_by x y c.lcp-common.result c.bit.result c.lcp-common.ensures (omega arith) (omega arith) c.bit.ensures
+    ∙ parted_by x y c.lcp-common.result c.bit.result c.lcp-common.ensures.value (omega arith) (omega arith) c.bit.ensures
 
 pub returns-then-common-min : goal.returns-then-common-min
 returns-then-common-min c =
@@ -22,7 +22,7 @@ returns-then-common-min c =
     let lx = c.len.ensures.value in
     let ly = c.len-2.ensures.value in
     ap (λ (b : Bool). if b then Less else Greater) (sym c.if-bit.false)
-    ∙ parted_by x y c.lcp-common.result c.bit.result c.lcp-common.ensures (omega arith) (omega arith) c.bit.ensures
+    ∙ parted_by x y c.lcp-common.result c.bit.result c.lcp-common.ensures.value (omega arith) (omega arith) c.bit.ensures
 
 pub returns : goal.returns
 returns c =
@@ -30,6 +30,6 @@ returns c =
     let y = bits_of c.args.other.now in
     let lx = c.len.ensures.value in
     let ly = c.len-2.ensures.value in
-    let common = c.lcp-common.ensures in
+    let common = c.lcp-common.ensures.value in
     c.cmp.ensures ∙ ap₂ nat_cmp c.len-3.ensures.value c.len-4.ensures.value
     ∙ order_ended x y (λ a b. absurd (omega arith))
