@@ -131,10 +131,10 @@ module _ (ds : List Bits) (keys : AreKeyBits ds) (k : Bits) (s : Stand) (h : Sta
         let both = both_children ds keys (extent_at ds s) first_is.there in
         in_range ds keys (extent_at ds s ++ true ∷ []) j inside (omega arith) (omega arith)
 
-    left_bit : (j : ℕ) → j < length ds → s.first ≤ j → j < s.first + left_at ds s → bit_at (get_or ds j []) (length (extent_at ds s)) ≡ false
+    pub left_bit : (j : ℕ) → j < length ds → s.first ≤ j → j < s.first + left_at ds s → bit_at (get_or ds j []) (length (extent_at ds s)) ≡ false
     left_bit j inside low high = bit_behind (get_or ds j []) (extent_at ds s) false (left_begins j inside low high)
 
-    right_bit : (j : ℕ) → j < length ds → s.first + left_at ds s ≤ j → j < s.first + s.leaves → bit_at (get_or ds j []) (length (extent_at ds s)) ≡ true
+    pub right_bit : (j : ℕ) → j < length ds → s.first + left_at ds s ≤ j → j < s.first + s.leaves → bit_at (get_or ds j []) (length (extent_at ds s)) ≡ true
     right_bit j inside low high = bit_behind (get_or ds j []) (extent_at ds s) true (right_begins j inside low high)
 
     -- the first and the last of them have just the extent in common

@@ -58,3 +58,8 @@ pub record IsFit (t : Contents) : Type 0 where
 abbrev pub IsPlaceOf : Contents → Place → Type 0
 IsPlaceOf t (Inner i) = i < length t.nodes
 IsPlaceOf t (Leaf j) = j < length t.delimiters
+
+-- the nodes of the trie of these strings, with their names
+pub record AreEntriesOf (ds : List Bits) (entries : List Entry) : Type 0 where
+  pub nodes : map (λ e. node_of e.node) entries ≡ spec.nodes_of ds
+  pub names : map (λ e. e.name) entries ≡ map (spec.name_len (spec.extents_of ds)) (spec.extents_of ds)
