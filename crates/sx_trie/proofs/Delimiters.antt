@@ -1,16 +1,12 @@
 -- Which delimiters begin with a string: those from the number of the ones below it on, as many as begin with it.
-use Rattle.std.proofs.Common.{◌≡◌, ℕ, zero, suc, ◌+◌, ◌-◌, ◌<◌, ◌≤◌, Bool, true, false, List, [], ◌∷◌, ◌++◌, length, get_or, refl, sym, ap, ◌∙◌, arith, inl, inr}
-use Rattle.std.specs.Prelude.{count_by, map, slice_get, Some, slice_index, slice_index_or}
-use Rattle.std.proofs.lemmas.Bool.{cases_Bool, cases_lt, false_from_ne_true}
-use Rattle.std.proofs.lemmas.List.{get_or-map, length-map}
-use Rattle.sx_spec_strings.specs.Bits.{Bits, AreKeyBits, bit_at, begins_with, common_prefix, is_below, key_bits}
-use Rattle.sx_spec_strings.specs.Ordered.{IsIn}
+use Rattle.std.proofs.Common.{◌≡◌, ℕ, zero, suc, ◌+◌, ◌<◌, ◌≤◌, Bool, true, false, List, [], ◌∷◌, ◌++◌, length, get_or, refl, ap, arith, inl, inr}
+use Rattle.std.specs.Prelude.{count_by}
+use Rattle.std.proofs.lemmas.Bool.{cases_Bool, false_from_ne_true}
+use Rattle.sx_spec_strings.specs.Bits.{Bits, AreKeyBits, bit_at, begins_with, common_prefix, is_below}
 use Rattle.sx_spec_strings.proofs.BitLaws.{begins_refl, begins_tail, begins_not_below, begins_below, below_trans, below_asym, below_total, below_irrefl, bit_eq_refl}
 use Rattle.sx_spec_kinds.proofs.NameLaws.{in_at}
 use Rattle.sx_spec_kinds.proofs.TrieLaws.{keys_rest, keys_first, keys_prefix}
 use Rattle.sx_spec_kinds.proofs.CountLaws.{one_if, count_cons, count_none}
-use Rattle.sx_bits.specs.KeyLists.{Keys, IsKeyList}
-use Rattle.sx_trie.specs.Tries.{AreRising, delimiter_bits}
 
 -- ---- counts along the list
 
@@ -19,24 +15,24 @@ module _ (d : Bits) (ds : List Bits) (keys : AreKeyBits (d ∷ ds)) (s : Bits) w
   none_below : is_below d s ≡ false → count_by (λ g. is_below g s) ds ≡ 0
   none_below not =
       count_none (λ g. is_below g s) ds (λ g i. false_from_ne_true (is_below g s) (λ b.
-        let less = below_trans d g s (keys_first d ds keys g i) b in
-        cc))
+      let less = below_trans d g s (keys_first d ds keys g i) b in
+      cc))
 
   -- where the first is above and doesn't begin with the string, none begins with it
   none_begins : is_below d s ≡ false → begins_with d s ≡ false → count_by (λ g. begins_with g s) ds ≡ 0
   none_begins not out =
       let above : is_below s d ≡ true =
-        elim (cases_Bool (is_below s d)) [
-          | inl over ↦ over
-          | inr neither ↦
+      elim (cases_Bool (is_below s d)) [
+        | inl over ↦ over
+        | inr neither ↦
             let same = below_total d s not neither in
             let begins : begins_with d s ≡ true = rw same (begins_refl s) in
             cc
-        ] in
+      ] in
       count_none (λ g. begins_with g s) ds (λ g i. false_from_ne_true (begins_with g s) (λ b.
-        let less = begins_below d s g above out b in
-        let more = below_asym d g (keys_first d ds keys g i) in
-        cc))
+      let less = begins_below d s g above out b in
+      let more = below_asym d g (keys_first d ds keys g i) in
+      cc))
 
 pub in_range : (ds : List Bits) → AreKeyBits ds → (s : Bits) (j : ℕ) → j < length ds → count_by (λ d. is_below d s) ds ≤ j
     → j < count_by (λ d. is_below d s) ds + count_by (λ d. begins_with d s) ds → begins_with (get_or ds j []) s ≡ true
@@ -47,37 +43,37 @@ in_range (d ∷ ds) keys s zero inside low high =
     elim (cases_Bool (begins_with d s)) [
       | inl found ↦ found
       | inr out ↦
-        elim (cases_Bool (is_below d s)) [
-          | inl less ↦ let one = ap one_if less in absurd (omega arith)
-          | inr not ↦
-            let none = ap one_if out in
-            let rest = none_begins d ds keys s not out in
-            let before = none_below d ds keys s not in
-            let zero' = ap one_if not in
-            absurd (omega arith)
-        ]
+          elim (cases_Bool (is_below d s)) [
+            | inl less ↦ let one = ap one_if less in absurd (omega arith)
+            | inr not ↦
+                let none = ap one_if out in
+                let rest = none_begins d ds keys s not out in
+                let before = none_below d ds keys s not in
+                let zero' = ap one_if not in
+                absurd (omega arith)
+          ]
     ]
 in_range (d ∷ ds) keys s (suc j) inside low high =
     let below = count_cons (λ g. is_below g s) d ds in
     let begins = count_cons (λ g. begins_with g s) d ds in
     elim (cases_Bool (is_below d s)) [
       | inl less ↦
-        let one = ap one_if less in
-        let out : begins_with d s ≡ false = false_from_ne_true (begins_with d s) (λ b. let n = begins_not_below d s b in cc) in
-        let none = ap one_if out in
-        in_range ds (keys_rest d ds keys) s j (omega arith) (omega arith) (omega arith)
+          let one = ap one_if less in
+          let out : begins_with d s ≡ false = false_from_ne_true (begins_with d s) (λ b. let n = begins_not_below d s b in cc) in
+          let none = ap one_if out in
+          in_range ds (keys_rest d ds keys) s j (omega arith) (omega arith) (omega arith)
       | inr not ↦
-        let zero' = ap one_if not in
-        let before = none_below d ds keys s not in
-        elim (cases_Bool (begins_with d s)) [
-          | inl found ↦
-            let one = ap one_if found in
-            in_range ds (keys_rest d ds keys) s j (omega arith) (omega arith) (omega arith)
-          | inr out ↦
-            let none = ap one_if out in
-            let rest = none_begins d ds keys s not out in
-            absurd (omega arith)
-        ]
+          let zero' = ap one_if not in
+          let before = none_below d ds keys s not in
+          elim (cases_Bool (begins_with d s)) [
+            | inl found ↦
+                let one = ap one_if found in
+                in_range ds (keys_rest d ds keys) s j (omega arith) (omega arith) (omega arith)
+            | inr out ↦
+                let none = ap one_if out in
+                let rest = none_begins d ds keys s not out in
+                absurd (omega arith)
+          ]
     ]
 
 pub range_of : (ds : List Bits) → AreKeyBits ds → (s : Bits) (j : ℕ) → j < length ds → begins_with (get_or ds j []) s ≡ true
@@ -97,15 +93,15 @@ range_of (d ∷ ds) keys s (suc j) inside found =
     let (low, high) = range_of ds (keys_rest d ds keys) s j (omega arith) found in
     elim (cases_Bool (is_below d s)) [
       | inl less ↦
-        let one = ap one_if less in
-        (omega arith, omega arith)
+          let one = ap one_if less in
+          (omega arith, omega arith)
       | inr not ↦
-        let zero' = ap one_if not in
-        let before = none_below d ds keys s not in
-        elim (cases_Bool (begins_with d s)) [
-          | inl first ↦ let one = ap one_if first in (omega arith, omega arith)
-          | inr out ↦ let rest = none_begins d ds keys s not out in absurd (omega arith)
-        ]
+          let zero' = ap one_if not in
+          let before = none_below d ds keys s not in
+          elim (cases_Bool (begins_with d s)) [
+            | inl first ↦ let one = ap one_if first in (omega arith, omega arith)
+            | inr out ↦ let rest = none_begins d ds keys s not out in absurd (omega arith)
+          ]
     ]
 
 -- ---- strings that part
@@ -149,12 +145,14 @@ key_pair (k ∷ ks) (suc i) (suc j) keys lt inside = key_pair ks i j (keys_rest 
 key_pair (k ∷ ks) zero (suc j) keys lt inside =
     let there = in_at ks j (omega arith) in
     let g = get_or ks j [] in
-    let less = keys_first k ks keys g there in
-    (less, false_from_ne_true (begins_with g k) (λ b.
-      let same = keys_prefix (k ∷ ks) k g keys (inl refl) (inr there) b in
-      let again : is_below k k ≡ true = rw same at less in
-      let none = below_irrefl k in
-      cc))
+    let less = keys_first k ks keys g there in (
+      less,
+      false_from_ne_true (begins_with g k) (λ b.
+          let same = keys_prefix (k ∷ ks) k g keys (inl refl) (inr there) b in
+          let again : is_below k k ≡ true = rw same at less in
+          let none = below_irrefl k in
+          cc),
+    )
 
 -- strings of which each pair of neighbours is of two keys are keys
 pub keys_from_pairs : (ds : List Bits)

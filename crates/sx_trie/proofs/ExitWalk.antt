@@ -1,5 +1,5 @@
 -- Where the walk of a string ends is its exit.
-use Rattle.std.proofs.Common.{◌≡◌, ℕ, zero, suc, ◌+◌, ◌-◌, ◌<◌, ◌≤◌, Bool, true, false, List, [], ◌∷◌, ◌++◌, length, get_or, take, refl, sym, ap, ap₂, subst, ◌∙◌, arith, inl, inr}
+use Rattle.std.proofs.Common.{◌≡◌, ℕ, zero, suc, ◌+◌, ◌-◌, ◌<◌, ◌≤◌, Bool, true, false, List, [], ◌∷◌, length, get_or, take, refl, sym, ap, subst, ◌∙◌, arith, inl, inr}
 use Rattle.std.specs.Prelude.{count_by, not, ◌⊎◌}
 use Rattle.std.specs.List.{list_all, position_or_len}
 use Rattle.std.proofs.lemmas.Bool.{cases_Bool, cases_lt, cases_eq, false_from_ne_true}
@@ -11,7 +11,7 @@ use Rattle.std.specs.declared.cmp.Ordering.{Ordering}
 use Rattle.std.specs.Ordering.{is_lt}
 use Rattle.sx_spec_strings.proofs.KeyBits.{tests_are_the_order}
 use Rattle.sx_spec_strings.proofs.OrderedLaws.{rising_first, rising_rest}
-use Rattle.sx_spec_kinds.specs.Trie.{Exit, Place, inner, leaf, extents_of, under, name_len, place_of, exit_of}
+use Rattle.sx_spec_kinds.specs.Trie.{Place, inner, leaf, extents_of, under, name_len, place_of, exit_of}
 use Rattle.sx_spec_kinds.specs.Hollow.{Stand}
 use Rattle.sx_spec_kinds.proofs.NameLaws.{begins_take, in_at, bits_same, bits_eq_refl, name_len_above, name_len_from}
 use Rattle.sx_spec_kinds.proofs.TrieLaws.{extents_rising, extents_trie, common_extent}
@@ -31,10 +31,10 @@ found_at (z ∷ zs) rising (suc i) inside =
     let g = get_or zs i [] in
     let less = rising_first z zs rising g (in_at zs i (omega arith)) in
     let other : bits_eq z g ≡ false = false_from_ne_true (bits_eq z g) (λ e.
-      let same = bits_same z g e in
-      let again : is_below g g ≡ true = rw same at less in
-      let none = below_irrefl g in
-      cc) in
+    let same = bits_same z g e in
+    let again : is_below g g ≡ true = rw same at less in
+    let none = below_irrefl g in
+    cc) in
     let e : 1 + i ≡ suc i = omega arith in
     rw other (ap (λ n. 1 + n) (found_at zs (rising_rest z zs rising) i (omega arith)) ∙ e)
 
@@ -64,22 +64,22 @@ module _ (ds : List Bits) (keys : AreKeyBits ds) (x : Bits) (s : Stand) (h : Sta
   name_is shorter =
       elim (cases_lt s.pos (name_len (extents_of ds) x)) [
         | inl over ↦
-          let (f, there, proper, size) = name_len_from (extents_of ds) x (omega arith) in
-          let short = shorter f there proper in
-          absurd (omega arith)
+            let (f, there, proper, size) = name_len_from (extents_of ds) x (omega arith) in
+            let short = shorter f there proper in
+            absurd (omega arith)
         | inr under ↦
-          elim h.parent [
-            | inl none ↦ omega arith
-            | inr there ↦
-              elim (cases_eq s.pos 0) [
-                | inl none ↦ omega arith
-                | inr some ↦
-                  let inside = h.inside in
-                  let short = length-take-le (s.pos - 1) x (omega arith) in
-                  let above = name_len_above (extents_of ds) (take (s.pos - 1) x) x there (proper_from (take (s.pos - 1) x) x (begins_take (s.pos - 1) x) (omega arith)) in
-                  omega arith
-              ]
-          ]
+            elim h.parent [
+              | inl none ↦ omega arith
+              | inr there ↦
+                  elim (cases_eq s.pos 0) [
+                    | inl none ↦ omega arith
+                    | inr some ↦
+                        let inside = h.inside in
+                        let short = length-take-le (s.pos - 1) x (omega arith) in
+                        let above = name_len_above (extents_of ds) (take (s.pos - 1) x) x there (proper_from (take (s.pos - 1) x) x (begins_take (s.pos - 1) x) (omega arith)) in
+                        omega arith
+                  ]
+            ]
       ]
 
   module _ (named : name_len (extents_of ds) x ≡ s.pos) where
@@ -96,19 +96,19 @@ module _ (ds : List Bits) (keys : AreKeyBits ds) (x : Bits) (s : Stand) (h : Sta
         elim (cases_Bool (is_below g x)) [
           | inl also ↦ also
           | inr more ↦
-            let differ : d ≡ g → ⊥ = λ same. (let again : is_below g x ≡ true = rw same at less in cc) in
-            let m = common_prefix d g in
-            let there = common_extent ds d g keys i j differ in
-            let x_m = begins_between d x g m (below_asym d x less) more (common_begins_left d g) (common_begins_right d g) in
-            let long = begins_length m name (common_longest d g name d_p g_p) in
-            let size = long_name in
-            elim (whole_or_proper m x x_m) [
-              | inl same ↦
-                let d_x : begins_with d x ≡ true = rw same at (common_begins_left d g) in
-                let none = begins_not_below d x d_x in
-                cc
-              | inr proper ↦ let above = name_len_above (extents_of ds) m x there proper in absurd (omega arith)
-            ]
+              let differ : d ≡ g → ⊥ = λ same. (let again : is_below g x ≡ true = rw same at less in cc) in
+              let m = common_prefix d g in
+              let there = common_extent ds d g keys i j differ in
+              let x_m = begins_between d x g m (below_asym d x less) more (common_begins_left d g) (common_begins_right d g) in
+              let long = begins_length m name (common_longest d g name d_p g_p) in
+              let size = long_name in
+              elim (whole_or_proper m x x_m) [
+                | inl same ↦
+                    let d_x : begins_with d x ≡ true = rw same at (common_begins_left d g) in
+                    let none = begins_not_below d x d_x in
+                    cc
+                | inr proper ↦ let above = name_len_above (extents_of ds) m x there proper in absurd (omega arith)
+              ]
         ]
 
     right_is : s.first < length ds → list_all (λ d. is_below d x) (under ds name) ≡ is_below (get_or ds s.first []) x
@@ -119,12 +119,12 @@ module _ (ds : List Bits) (keys : AreKeyBits ds) (x : Bits) (s : Stand) (h : Sta
         elim (cases_Bool (list_all (λ d. is_below d x) (under ds name))) [
           | inl all ↦ let one = all_at (λ d. is_below d x) (under ds name) first all (in_under ds name first there begins) in cc
           | inr some ↦
-            let (d, i, not) = some_at (λ d. is_below d x) (under ds name) some in
-            let (d_there, d_begins) = under_from ds name d i in
-            let none : is_below first x ≡ false = false_from_ne_true (is_below first x) (λ less.
+              let (d, i, not) = some_at (λ d. is_below d x) (under ds name) some in
+              let (d_there, d_begins) = under_from ds name d i in
+              let none : is_below first x ≡ false = false_from_ne_true (is_below first x) (λ less.
               let also = all_or_none first d there d_there begins d_begins less in
               cc) in
-            cc
+              cc
         ]
 
     exit_at : (p : Place) → s.first < length ds → place_of (extents_of ds) s.first (under ds name) ≡ p → record { place = p; right = is_below (get_or ds s.first []) x } ≡ exit_of ds x
@@ -139,16 +139,16 @@ module _ (ds : List Bits) (keys : AreKeyBits ds) (x : Bits) (s : Stand) (h : Sta
   pub exit_at_leaf : s.first < length ds → s.leaves ≡ 1 → record { place = leaf s.first; right = is_below (get_or ds s.first []) x } ≡ exit_of ds x
   exit_at_leaf inside one =
       let named = name_is (λ f there proper.
-        elim (cases_lt (length f) s.pos) [
-          | inl short ↦ short
-          | inr long ↦
+      elim (cases_lt (length f) s.pos) [
+        | inl short ↦ short
+        | inr long ↦
             let size = long_name in
             let begins = begins_shorter x name f (begins_take s.pos x) (proper_parts f x proper).0 (omega arith) in
             let some = count_some (λ g. begins_with g name) (extents_of ds) f there begins in
             let none = extents_under ds name keys in
             let leaves = h.leaves in
             absurd (omega arith)
-        ]) in
+      ]) in
       let under_size = length-under ds name in
       let leaves = h.leaves in
       exit_at named (leaf s.first) inside (place_one (extents_of ds) s.first (under ds name) (omega arith))
@@ -184,8 +184,8 @@ module _ (ds : List Bits) (keys : AreKeyBits ds) (x : Bits) (s : Stand) (h : Sta
         let left_in = in_under ds name p.left p.left_there (begins_trans p.left e name left_e f.begins) in
         let right_in = in_under ds name p.right p.right_there (begins_trans p.right e name right_e f.begins) in
         let q_e = common_longest_of (under ds name) e (omega arith) (λ d i.
-          let (there, begins) = under_from ds name d i in
-          key_under ds keys x name e d f (omega arith) there begins) in
+        let (there, begins) = under_from ds name d i in
+        key_under ds keys x name e d f (omega arith) there begins) in
         let both = common_longest p.left p.right q (begins_common_of (under ds name) p.left left_in) (begins_common_of (under ds name) p.right right_in) in
         let e_q : begins_with e q ≡ true = rw (parted_prefix p.left p.right e p.left_begins p.right_begins) at both in
         begins_both q e q_e e_q
@@ -196,24 +196,24 @@ module _ (ds : List Bits) (keys : AreKeyBits ds) (x : Bits) (s : Stand) (h : Sta
         let e = extent_at ds s in
         let f = first_extent in
         let named = name_is (λ g there proper.
-          elim (cases_lt (length g) s.pos) [
-            | inl short ↦ short
-            | inr long ↦
+        elim (cases_lt (length g) s.pos) [
+          | inl short ↦ short
+          | inr long ↦
               let size = long_name in
               let (x_g, less) = proper_parts g x proper in
               let begins = begins_shorter x name g (begins_take s.pos x) x_g (omega arith) in
               let g_e = under_extent g there begins in
               let shorter = begins_length g e g_e in
               absurd (stops (begins_trans x g e x_g g_e) (omega arith))
-          ]) in
+        ]) in
         let size = length-under ds name in
         let leaves = h.leaves in
         let node = h.node in
         let there = f.inside in
         exit_at named (inner s.node) inside
-          (place_more (extents_of ds) s.first (under ds name) (omega arith)
-          ∙ ap (λ q. inner (position_or_len (λ g. bits_eq g q) (extents_of ds))) common_is
-          ∙ ap inner (found_at (extents_of ds) (extents_rising ds) s.node (omega arith)))
+        (place_more (extents_of ds) s.first (under ds name) (omega arith)
+        ∙ ap (λ q. inner (position_or_len (λ g. bits_eq g q) (extents_of ds))) common_is
+        ∙ ap inner (found_at (extents_of ds) (extents_rising ds) s.node (omega arith)))
 
 -- ---- the test whether a walk goes on
 
@@ -258,10 +258,12 @@ module _ (ds : List Bits) (keys : AreKeyBits ds) (x : Bits) (s : Stand) (h : Sta
       let e = node.after_is in
       let n1 : s.node + l ≡ s.node + (middle - first) = omega arith in
       let n2 : s.leaves - l ≡ after - middle = omega arith in
-      let n3 : s.first + l ≡ middle = omega arith in
-      (p + 1, subst (StandsAt ds keys x)
-        (ap (at_child s l p) b ∙ (λ i. record { node = n1 i; leaves = n2 i; first = n3 i; pos = p + 1 }))
-        child_stands)
+      let n3 : s.first + l ≡ middle = omega arith in (
+        p + 1,
+        subst (StandsAt ds keys x)
+            (ap (at_child s l p) b ∙ (λ i. record { node = n1 i; leaves = n2 i; first = n3 i; pos = p + 1 }))
+            child_stands,
+      )
 
   pub walk_left : bit_at x extent ≡ false → Walks ds keys x (s.node + 1) (middle - first) s.first
   walk_left bit =
@@ -270,10 +272,12 @@ module _ (ds : List Bits) (keys : AreKeyBits ds) (x : Bits) (s : Stand) (h : Sta
       let b : bit_at x p ≡ false = ap (bit_at x) (sym node.extent_is) ∙ bit in
       let a = node.first_is in
       let m = node.middle_is in
-      let n2 : l ≡ middle - first = omega arith in
-      (p + 1, subst (StandsAt ds keys x)
-        (ap (at_child s l p) b ∙ (λ i. record { node = s.node + 1; leaves = n2 i; first = s.first; pos = p + 1 }))
-        child_stands)
+      let n2 : l ≡ middle - first = omega arith in (
+        p + 1,
+        subst (StandsAt ds keys x)
+            (ap (at_child s l p) b ∙ (λ i. record { node = s.node + 1; leaves = n2 i; first = s.first; pos = p + 1 }))
+            child_stands,
+      )
 
 -- ---- what stands to the right of a delimiter
 

@@ -16,17 +16,17 @@ use Rattle.sx_spec_kinds.specs.Fattest.{fattest_within, fattest}
 
 xor_none : (a b : ℕ) → bit_xor a b ≡ 0 → a ≡ b
 xor_none a b none = same_from_bits a b (λ i.
-  let e = bit_at_xor a b i in
-  let f = ap (λ m. bit_at m i) none ∙ bit_at-zero i in
-  let la = bit_at-lt a i in
-  let lb = bit_at-lt b i in
-  omega arith)
+    let e = bit_at_xor a b i in
+    let f = ap (λ m. bit_at m i) none ∙ bit_at-zero i in
+    let la = bit_at-lt a i in
+    let lb = bit_at-lt b i in
+    omega arith)
 
 xor_self : (a : ℕ) → bit_xor a a ≡ 0
 xor_self a = same_from_bits (bit_xor a a) 0 (λ i.
-  let e = bit_at_xor a a i in
-  let f = bit_at-zero i in
-  omega arith)
+    let e = bit_at_xor a a i in
+    let f = bit_at-zero i in
+    omega arith)
 
 -- ---- quotients
 
@@ -64,10 +64,10 @@ halved (suc k) (suc t) a c le same less =
     let ha' = half_then a (suc k) in
     let hc' = half_then c (suc k) in
     let smaller : a / 2 < c / 2 =
-      elim (cases_lt (a / 2) (c / 2)) [
-        | inl lt ↦ lt
-        | inr ge ↦ let r = quotients_rise (c / 2) (a / 2) (2 ^ k) (pow_pos k) ge in absurd (omega arith)
-      ] in
+    elim (cases_lt (a / 2) (c / 2)) [
+      | inl lt ↦ lt
+      | inr ge ↦ let r = quotients_rise (c / 2) (a / 2) (2 ^ k) (pow_pos k) ge in absurd (omega arith)
+    ] in
     let rest = halved k t (a / 2) (c / 2) (omega arith) (ha' ∙ same ∙ sym hc') (omega arith) in
     let p = pow-succ' 2 k in
     halves t a c smaller ∙ ap (λ m. 2 * m) rest ∙ doubled (c / 2 / 2 ^ k) (2 ^ k) ∙ ap (λ m. m * (2 * 2 ^ k)) hc ∙ ap (λ m. c / 2 ^ suc k * m) (sym p)
@@ -96,25 +96,25 @@ fattest_is a b low less small is =
     let e : low ≡ top = omega arith in
     let p = pow-succ' 2 top in
     let same : a / 2 ^ suc top ≡ b / 2 ^ suc top =
-      xor_none (a / 2 ^ suc top) (b / 2 ^ suc top) (sym (xor_shr a b (suc top)) ∙ div-eq_of_lt most) in
+    xor_none (a / 2 ^ suc top) (b / 2 ^ suc top) (sym (xor_shr a b (suc top)) ∙ div-eq_of_lt most) in
     let rises = quotients_rise a b (2 ^ top) (pow_pos top) (omega arith) in
     let apart : a / 2 ^ top < b / 2 ^ top =
-      elim (cases_eq (a / 2 ^ top) (b / 2 ^ top)) [
-        | inl equal ↦
+    elim (cases_eq (a / 2 ^ top) (b / 2 ^ top)) [
+      | inl equal ↦
           let none = xor_shr a b top ∙ ap (λ m. bit_xor m (b / 2 ^ top)) equal ∙ xor_self (b / 2 ^ top) in
           let one = le-div 1 d (2 ^ top) (pow_pos top) (omega arith) in
           absurd (omega arith)
-        | inr differ ↦ omega arith
-      ] in
+      | inr differ ↦ omega arith
+    ] in
     let digits = digits_hold b in
     let long : top ≤ binary_digits b =
-      elim (cases_lt (binary_digits b) top) [
-        | inl under ↦
+    elim (cases_lt (binary_digits b) top) [
+      | inl under ↦
           let wide : 2 ^ binary_digits b ≤ 2 ^ top = pow_mono (omega arith) in
           let none = div-eq_of_lt {n = b} {m = 2 ^ top} (omega arith) in
           absurd (omega arith)
-        | inr over ↦ over
-      ] in
+      | inr over ↦ over
+    ] in
     ap (λ k. b / 2 ^ k * 2 ^ k) e ∙ sym (halved top (binary_digits b) a b long same apart)
 
 pub fattest_code : (a b : ℕ) → a < b → b < 2 ^ 32

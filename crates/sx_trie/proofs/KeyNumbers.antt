@@ -1,9 +1,9 @@
 -- Delimiters that are named by rising numbers of keys.
-use Rattle.std.proofs.Common.{◌≡◌, ℕ, zero, suc, ◌+◌, ◌-◌, ◌<◌, ◌≤◌, true, false, List, [], ◌∷◌, length, get_or, refl, sym, ap, ap₂, ◌∙◌, arith, inl, inr}
+use Rattle.std.proofs.Common.{◌≡◌, ℕ, zero, suc, ◌+◌, ◌<◌, ◌≤◌, List, [], ◌∷◌, length, get_or, sym, ap, ap₂, ◌∙◌, arith}
 use Rattle.std.specs.Prelude.{map, slice_index, slice_index_or}
 use Rattle.std.specs.List.{AllByRecursion}
-use Rattle.std.proofs.lemmas.List.{length-map, get_or-map, get_or_default}
-use Rattle.sx_spec_strings.specs.Bits.{Bits, AreKeyBits, begins_with, is_below, key_bits}
+use Rattle.std.proofs.lemmas.List.{length-map, get_or-map}
+use Rattle.sx_spec_strings.specs.Bits.{AreKeyBits, begins_with, is_below, key_bits}
 use Rattle.sx_spec_strings.specs.Laws.{IsText}
 use Rattle.sx_spec_strings.proofs.KeyBits.{rising_texts_are_key_bits}
 use Rattle.sx_spec.proofs.Counts.{all_at}
@@ -19,7 +19,7 @@ pub key_list_bits : (keys : Keys) → IsKeyList keys → AreKeyBits (map key_bit
 key_list_bits keys valid =
     let file = faultless_lines_are_keys keys.limits keys.lines valid.faultless in
     let texts : AllByRecursion IsText keys.lines =
-      each_element IsText keys.lines (λ i line at. text_of line (file.texts i line at) (all_at (AllByRecursion (λ b. b < 256)) keys.lines valid.bytes i line at)) in
+    each_element IsText keys.lines (λ i line at. text_of line (file.texts i line at) (all_at (AllByRecursion (λ b. b < 256)) keys.lines valid.bytes i line at)) in
     rising_texts_are_key_bits keys.lines texts file.rising
 
 -- a delimiter is the key of its number
@@ -37,15 +37,15 @@ delimiter_keys keys valid numbers rising =
     let many = length-map numbers (λ n. key_bits (slice_index_or lines n [])) in
     let total = length-map lines key_bits in
     keys_from_pairs ds (λ i lt.
-      let e : i + 1 ≡ suc i = omega arith in
-      let here = rising.inside i (omega arith) in
-      let there = rising.inside (suc i) (omega arith) in
-      let less = ap (λ n. slice_index numbers n) e in
-      let step = rising.rising i (omega arith) in
-      let pair = key_pair (map key_bits lines) (slice_index numbers i) (slice_index numbers (suc i)) all (omega arith) (omega arith) in
-      let d = delimiter_at lines numbers i (omega arith) here in
-      let g = delimiter_at lines numbers (suc i) (omega arith) there in
-      (ap₂ is_below d g ∙ pair.0, ap₂ begins_with g d ∙ pair.1))
+    let e : i + 1 ≡ suc i = omega arith in
+    let here = rising.inside i (omega arith) in
+    let there = rising.inside (suc i) (omega arith) in
+    let less = ap (λ n. slice_index numbers n) e in
+    let step = rising.rising i (omega arith) in
+    let pair = key_pair (map key_bits lines) (slice_index numbers i) (slice_index numbers (suc i)) all (omega arith) (omega arith) in
+    let d = delimiter_at lines numbers i (omega arith) here in
+    let g = delimiter_at lines numbers (suc i) (omega arith) there in
+    (ap₂ is_below d g ∙ pair.0, ap₂ begins_with g d ∙ pair.1))
 
 -- rising numbers are no more than the numbers that they are of
 number_above : (lines : List (List ℕ)) (numbers : List ℕ) → AreRising lines numbers → (i : ℕ) → i < length numbers → i ≤ slice_index numbers i

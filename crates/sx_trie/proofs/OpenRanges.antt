@@ -1,7 +1,7 @@
 -- The ranges of leaves whose nodes are still to come, and how one of them is opened.
-use Rattle.std.proofs.Common.{◌≡◌, ℕ, zero, suc, ◌+◌, ◌-◌, ◌<◌, ◌≤◌, Bool, true, false, List, [], ◌∷◌, ◌++◌, length, get_or, take, refl, sym, ap, subst, ◌∙◌, arith, inl, inr}
-use Rattle.std.specs.Prelude.{map, nat_lt, if◌then◌else◌}
-use Rattle.std.proofs.lemmas.Bool.{cases_Bool, cases_lt, lt-ltb, le-ltb}
+use Rattle.std.proofs.Common.{◌≡◌, ℕ, ◌+◌, ◌-◌, ◌<◌, ◌≤◌, Bool, true, false, List, [], ◌∷◌, ◌++◌, length, get_or, take, refl, sym, ap, subst, ◌∙◌, arith, inl, inr}
+use Rattle.std.specs.Prelude.{map, if◌then◌else◌}
+use Rattle.std.proofs.lemmas.Bool.{cases_lt, lt-ltb, le-ltb}
 use Rattle.std.proofs.lemmas.List.{take_all, take-take, take_more, map_push, length_push, length-take-le}
 use Rattle.sx_spec_strings.specs.Bits.{Bits, AreKeyBits, bit_at, begins_with, common_prefix}
 use Rattle.sx_spec_strings.proofs.BitLaws.{begins_trans, begins_length}
@@ -14,7 +14,7 @@ use Rattle.sx_trie.specs.declared.building.Range.{Range}
 use Rattle.sx_trie.specs.declared.nodes.Node.{Node}
 use Rattle.sx_trie.specs.Tries.{node_of}
 use Rattle.sx_trie.specs.Ranges.{IsSplittable, with_range}
-use Rattle.sx_trie.proofs.Stands.{extent_at, left_at, at_child, on_child, stands_other, under_at, longer_at, left_bit, right_bit, left_some, left_less, ends_part, splittable, middle_is, node_is, name_here}
+use Rattle.sx_trie.proofs.Stands.{extent_at, left_at, at_child, on_child, stands_other, under_at, longer_at, left_some, left_less, ends_part, splittable, middle_is, node_is, name_here}
 
 -- how many inner nodes stand over a range
 abbrev pub width : Range → ℕ
@@ -65,12 +65,12 @@ module _ (ds : List Bits) (keys : AreKeyBits ds) (all : ℕ) where
   open_with rs now r node is opened place last =
       elim (cases_lt 1 (r.after - r.first)) [
         | inl more ↦
-          let e : now ≡ rs ++ r ∷ [] = is ∙ ap (λ (b : Bool). if b then rs ++ r ∷ [] else rs) (lt-ltb 1 (r.after - r.first) more) in
-          let n : node ≡ all - (0 + pending rs + width r) = omega arith in
-          (subst (AreOpen ds keys all 0) (sym e) (open_push rs r 0 opened (subst (λ m. IsOpen ds keys m r) n (last more))), ap pending e ∙ pending_push rs r)
+            let e : now ≡ rs ++ r ∷ [] = is ∙ ap (λ (b : Bool). if b then rs ++ r ∷ [] else rs) (lt-ltb 1 (r.after - r.first) more) in
+            let n : node ≡ all - (0 + pending rs + width r) = omega arith in
+            (subst (AreOpen ds keys all 0) (sym e) (open_push rs r 0 opened (subst (λ m. IsOpen ds keys m r) n (last more))), ap pending e ∙ pending_push rs r)
         | inr one ↦
-          let e : now ≡ rs = is ∙ ap (λ (b : Bool). if b then rs ++ r ∷ [] else rs) (le-ltb 1 (r.after - r.first) one) in
-          (subst (AreOpen ds keys all 0) (sym e) opened, ap pending e ∙ (let w : width r ≡ 0 = omega arith in omega arith))
+            let e : now ≡ rs = is ∙ ap (λ (b : Bool). if b then rs ++ r ∷ [] else rs) (le-ltb 1 (r.after - r.first) one) in
+            (subst (AreOpen ds keys all 0) (sym e) opened, ap pending e ∙ (let w : width r ≡ 0 = omega arith in omega arith))
       ]
 
   -- the range on top, whose node comes next
@@ -106,7 +106,7 @@ module _ (ds : List Bits) (keys : AreKeyBits ds) (n : ℕ) (r : Range) (o : IsOp
       let a = o.inside in
       let e = all_leaves in
       subst (IsSplittable ds r.first r.after) (sym extent_is)
-        (subst (λ m. IsSplittable ds r.first m (length (extent_at ds stand))) e (splittable ds keys first_string stand o.stands o.more (omega arith)))
+      (subst (λ m. IsSplittable ds r.first m (length (extent_at ds stand))) e (splittable ds keys first_string stand o.stands o.more (omega arith)))
 
   module _ (extent middle : ℕ)
       (is : extent ≡ length (common_prefix (get_or ds r.first []) (get_or ds (r.after - 1) [])))
@@ -122,8 +122,8 @@ module _ (ds : List Bits) (keys : AreKeyBits ds) (n : ℕ) (r : Range) (o : IsOp
         let b = o.more in
         let e = length_is in
         middle_is ds keys first_string stand o.stands o.more middle (omega arith) low (omega arith)
-          (λ j f t. ap (bit_at (get_or ds j [])) (sym e) ∙ zeros j f t)
-          (λ j f t. ap (bit_at (get_or ds j [])) (sym e) ∙ ones j f (omega arith))
+        (λ j f t. ap (bit_at (get_or ds j [])) (sym e) ∙ zeros j f t)
+        (λ j f t. ap (bit_at (get_or ds j [])) (sym e) ∙ ones j f (omega arith))
 
     -- the node there, and its name
     pub node_there : (node : Node) → node.extent ≡ extent → node.first ≡ r.first → node.middle ≡ middle → node.after ≡ r.after → node_of node ≡ spec.node_of ds (extent_at ds stand)
@@ -165,9 +165,9 @@ module _ (ds : List Bits) (keys : AreKeyBits ds) (n : ℕ) (r : Range) (o : IsOp
         let p : length (extent_at ds stand) + 1 ≡ extent + 1 = omega arith in
         record {
           stands = subst (StandsAt ds keys first_string)
-            (ap (at_child stand (left_at ds stand) (length (extent_at ds stand))) bit
-            ∙ (λ i. record { node = n + 1; leaves = l i; first = r.first; pos = p i }))
-            (child_of first_string r.first refl (omega arith) (let b = o.more in omega arith) o.stands);
+              (ap (at_child stand (left_at ds stand) (length (extent_at ds stand))) bit
+              ∙ (λ i. record { node = n + 1; leaves = l i; first = r.first; pos = p i }))
+              (child_of first_string r.first refl (omega arith) (let b = o.more in omega arith) o.stands);
           more = more;
           inside = omega arith;
         }
@@ -187,9 +187,9 @@ module _ (ds : List Bits) (keys : AreKeyBits ds) (n : ℕ) (r : Range) (o : IsOp
         let long = length-take-le r.name first_string o.stands.inside in
         let fits = begins_length k name k_n in
         let same : name ≡ take r.name k =
-          sym (take_of_begins k name r.name k_n (omega arith) ∙ take_all r.name name (omega arith)) in
+        sym (take_of_begins k name r.name k_n (omega arith) ∙ take_all r.name name (omega arith)) in
         let shorter : take (r.name - 1) first_string ≡ take (r.name - 1) k =
-          sym (take-take (r.name - 1) r.name first_string (omega arith)) ∙ ap (take (r.name - 1)) same ∙ take-take (r.name - 1) r.name k (omega arith) in
+        sym (take-take (r.name - 1) r.name first_string (omega arith)) ∙ ap (take (r.name - 1)) same ∙ take-take (r.name - 1) r.name k (omega arith) in
         let there = stands_other ds keys first_string stand o.stands k (omega arith) same shorter in
         let n1 : n + left_at ds stand ≡ n + (middle - r.first) = omega arith in
         let n2 : r.after - r.first - left_at ds stand ≡ r.after - middle = omega arith in
@@ -197,9 +197,9 @@ module _ (ds : List Bits) (keys : AreKeyBits ds) (n : ℕ) (r : Range) (o : IsOp
         let p : length (extent_at ds stand) + 1 ≡ extent + 1 = omega arith in
         record {
           stands = subst (StandsAt ds keys k)
-            (ap (at_child stand (left_at ds stand) (length (extent_at ds stand))) bit
-            ∙ (λ i. record { node = n1 i; leaves = n2 i; first = n3 i; pos = p i }))
-            (child_of k middle refl low (omega arith) there);
+              (ap (at_child stand (left_at ds stand) (length (extent_at ds stand))) bit
+              ∙ (λ i. record { node = n1 i; leaves = n2 i; first = n3 i; pos = p i }))
+              (child_of k middle refl low (omega arith) there);
           more = more;
           inside = a;
         }
@@ -226,7 +226,7 @@ opened_first ds keys count now all is =
     let r : Range = record { first = 0; after = count; name = 0 } in
     let (opened, size) = open_with ds keys (length ds - 1) [] now r 0 is tt (omega arith) (λ more. record {
       stands = subst (λ n. StandsAt ds keys (get_or ds 0 []) (record { node = 0; leaves = n; first = 0; pos = 0 })) (let e : length ds ≡ count - 0 = omega arith in e)
-        (stands_start ds keys (get_or ds 0 []) (omega arith));
+          (stands_start ds keys (get_or ds 0 []) (omega arith));
       more = more;
       inside = omega arith;
     }) in
@@ -271,9 +271,9 @@ module _ (ds : List Bits) (keys : AreKeyBits ds) (n : ℕ) (before rs : List Ran
         let some = left_some ds keys (get_or ds r.first []) (stand ds keys n r top) top.stands top.more in
         let less = left_less ds keys (get_or ds r.first []) (stand ds keys n r top) top.stands top.more in
         let (opened_one, size_one) = open_with ds keys (length ds - 1) rs one right (n + (node.middle - r.first)) one_is rest (omega arith)
-          (λ wide. subst (IsOpen ds keys (n + (node.middle - r.first))) right_same (right_open ds keys n r top node.extent node.middle is low high zeros ones (omega arith))) in
+        (λ wide. subst (IsOpen ds keys (n + (node.middle - r.first))) right_same (right_open ds keys n r top node.extent node.middle is low high zeros ones (omega arith))) in
         let (opened_two, size_two) = open_with ds keys (length ds - 1) one two left (n + 1) two_is opened_one (omega arith)
-          (λ wide. subst (IsOpen ds keys (n + 1)) left_same (left_open ds keys n r top node.extent node.middle is low high zeros ones (omega arith))) in
+        (λ wide. subst (IsOpen ds keys (n + 1)) left_same (left_open ds keys n r top node.extent node.middle is low high zeros ones (omega arith))) in
         (opened_two, omega arith)
 
 pub mapped_none : {X Y Z : Type 0} (f : X → Z) (g : Y → Z) (xs : List X) (ys : List Y) → xs ≡ [] → map f xs ≡ map g (take (length xs) ys)

@@ -1,18 +1,18 @@
 -- Where a walk stands: the node, its children, and how the delimiters under it part.
-use Rattle.std.proofs.Common.{◌≡◌, ℕ, zero, suc, ◌+◌, ◌-◌, ◌<◌, ◌≤◌, Bool, true, false, List, [], ◌∷◌, ◌++◌, length, get_or, take, refl, sym, ap, subst, ◌∙◌, arith, inl, inr}
+use Rattle.std.proofs.Common.{◌≡◌, ℕ, ◌+◌, ◌-◌, ◌<◌, ◌≤◌, Bool, true, false, List, [], ◌∷◌, ◌++◌, length, get_or, take, refl, sym, ap, subst, ◌∙◌, arith, inl, inr}
 use Rattle.std.specs.Prelude.{count_by, if◌then◌else◌, slice_index}
-use Rattle.std.proofs.lemmas.Bool.{cases_Bool, cases_lt}
-use Rattle.std.proofs.lemmas.List.{length-append, get_or-map}
+use Rattle.std.proofs.lemmas.Bool.{cases_lt}
+use Rattle.std.proofs.lemmas.List.{get_or-map}
 use Rattle.sx_spec_strings.specs.Bits.{Bits, AreKeyBits, bit_at, begins_with, common_prefix, is_below}
 use Rattle.sx_spec_strings.proofs.BitLaws.{begins_whole}
 use Rattle.sx_spec_kinds.specs.Trie.{Node, no_node, node_at, nodes_of, extents_of, node_of, name_len}
 use Rattle.sx_spec_kinds.specs.Hollow.{Stand, Walk, goes, lost, child, descend, left_counts, skips}
 use Rattle.sx_spec_kinds.proofs.NameLaws.{in_at}
 use Rattle.sx_spec_kinds.proofs.CountLaws.{length-under, count_some}
-use Rattle.sx_spec_kinds.proofs.ChildLaws.{begins_next, parts, delimiter_differs, left_start, right_start, both_children}
-use Rattle.sx_spec_kinds.proofs.HollowLaws.{IsFirst, StandsAt, first_here, name_is, left_lem, skip_to, keys_below_name, keys_under_name, Stepped, descended}
+use Rattle.sx_spec_kinds.proofs.ChildLaws.{parts, delimiter_differs, left_start, right_start, both_children}
+use Rattle.sx_spec_kinds.proofs.HollowLaws.{IsFirst, StandsAt, first_here, name_is, left_lem, skip_to, keys_below_name, keys_under_name, descended}
 use Rattle.sx_trie.specs.Ranges.{IsSplittable}
-use Rattle.sx_trie.proofs.Delimiters.{in_range, range_of, parted_prefix, bit_behind}
+use Rattle.sx_trie.proofs.Delimiters.{in_range, parted_prefix, bit_behind}
 
 -- ---- a step down
 
@@ -51,8 +51,8 @@ module _ (ds : List Bits) (keys : AreKeyBits ds) (k : Bits) (s : Stand) (h : Sta
       let p = s.pos + slice_index (skips ds) s.node in
       let is = child_is s l p (bit_at k p) d.next (unlost _ _ d.next d.goes_on) in
       subst (StandsAt ds keys k)
-        (is ∙ ap (λ n. at_child s n p (bit_at k p)) left ∙ ap (λ q. at_child s (left_at ds s) q (bit_at k q)) at)
-        d.stands
+      (is ∙ ap (λ n. at_child s n p (bit_at k p)) left ∙ ap (λ q. at_child s (left_at ds s) q (bit_at k q)) at)
+      d.stands
 
   -- the same stand, for another string with the same name
   pub stands_other : (k' : Bits) → s.pos ≤ length k' → take s.pos k ≡ take s.pos k' → take (s.pos - 1) k ≡ take (s.pos - 1) k' → StandsAt ds keys k' s
@@ -113,7 +113,7 @@ module _ (ds : List Bits) (keys : AreKeyBits ds) (k : Bits) (s : Stand) (h : Sta
         elim (cases_lt (length (extent_at ds s)) (length (get_or ds j []))) [
           | inl longer ↦ longer
           | inr whole ↦
-            absurd (delimiter_differs ds keys (extent_at ds s) first_is.there (get_or ds j []) (in_at ds j inside)
+              absurd (delimiter_differs ds keys (extent_at ds s) first_is.there (get_or ds j []) (in_at ds j inside)
               (sym (begins_whole (get_or ds j []) (extent_at ds s) b whole)))
         ]
 
@@ -143,8 +143,8 @@ module _ (ds : List Bits) (keys : AreKeyBits ds) (k : Bits) (s : Stand) (h : Sta
         let some = left_some in
         let less = left_less in
         parted_prefix (get_or ds s.first []) (get_or ds (s.first + s.leaves - 1) []) (extent_at ds s)
-          (left_begins s.first (omega arith) (omega arith) (omega arith))
-          (right_begins (s.first + s.leaves - 1) (omega arith) (omega arith) (omega arith))
+        (left_begins s.first (omega arith) (omega arith) (omega arith))
+        (right_begins (s.first + s.leaves - 1) (omega arith) (omega arith) (omega arith))
 
     pub splittable : s.first + s.leaves ≤ length ds → IsSplittable ds s.first (s.first + s.leaves) (length (extent_at ds s))
     splittable inside = record {
@@ -166,17 +166,17 @@ module _ (ds : List Bits) (keys : AreKeyBits ds) (k : Bits) (s : Stand) (h : Sta
         let less = left_less in
         elim (cases_lt m (s.first + left_at ds s)) [
           | inl early ↦
-            let one = ones m (omega arith) (omega arith) in
-            let zero' = left_bit m (omega arith) low early in
-            absurd cc
+              let one = ones m (omega arith) (omega arith) in
+              let zero' = left_bit m (omega arith) low early in
+              absurd cc
           | inr late ↦
-            elim (cases_lt (s.first + left_at ds s) m) [
-              | inl over ↦
-                let zero' = zeros (s.first + left_at ds s) (omega arith) over in
-                let one = right_bit (s.first + left_at ds s) (omega arith) (omega arith) (omega arith) in
-                absurd cc
-              | inr same ↦ omega arith
-            ]
+              elim (cases_lt (s.first + left_at ds s) m) [
+                | inl over ↦
+                    let zero' = zeros (s.first + left_at ds s) (omega arith) over in
+                    let one = right_bit (s.first + left_at ds s) (omega arith) (omega arith) (omega arith) in
+                    absurd cc
+                | inr same ↦ omega arith
+              ]
         ]
 
 -- ---- the node that a trie has there

@@ -1,5 +1,5 @@
 -- What a trie holds, and of which keys it is the trie.
-use Rattle.std.specs.Prelude.{◌≡◌, ℕ, ◌+◌, ◌-◌, ◌^◌, ◌<◌, ◌≤◌, List, [], length, map, slice_index, slice_index_or}
+use Rattle.std.specs.Prelude.{◌≡◌, ℕ, ◌+◌, ◌^◌, ◌<◌, ◌≤◌, List, [], length, map, slice_index, slice_index_or}
 use Rattle.sx_spec_strings.specs.Bits.{Bits, AreKeyBits, key_bits}
 use Rattle.sx_spec_kinds.specs.Trie as spec
 use Rattle.sx_trie.specs.declared.nodes.Node.{Node}

@@ -9,7 +9,6 @@ ghost use Rattle.sx_trie.specs.Ranges.{string_at, extent_over, IsSplittable, wit
 
 use crate::nodes::{Entry, Node};
 use crate::tries::Trie;
-
 use std::alloc::{AllocError, Global};
 use sx_bits::{BitView, KeyList};
 
@@ -142,11 +141,7 @@ fn entries_over(alloc: Global, keys: &KeyList, delimiters: &[u32]) -> Result<Vec
 
 impl Trie {
     /// The trie of the keys with these numbers, which rise strictly.
-    pub fn build(
-        alloc: Global,
-        keys: &KeyList,
-        delimiters: &[u32],
-    ) -> Result<Trie, AllocError>
+    pub fn build(alloc: Global, keys: &KeyList, delimiters: &[u32]) -> Result<Trie, AllocError>
         requires { AreRising keys.now.lines delimiters.now }
         ensures built { IfOk result (λ trie. IsTrieOf keys.now.lines trie) }
         ensures delimiters { IfOk result (λ trie. trie.delimiters ≡ delimiters.now) }

@@ -78,7 +78,8 @@ impl Trie {
     pub fn exit(&self, keys: &KeyList, view: &BitView<'_>) -> Exit
         requires built { IsTrieOf keys.now.lines self.now }
         requires some { 0 < length self.now.delimiters }
-        ensures { exit_of result ≡ exit_in (delimiter_bits keys.now.lines self.now.delimiters) (bits_of view.now) }
+        ensures place { IsPlaceOf self.now result.place }
+        ensures value { exit_of result ≡ exit_in (delimiter_bits keys.now.lines self.now.delimiters) (bits_of view.now) }
     {
         let mut at = 0;
         let mut first = 0;
@@ -100,10 +101,10 @@ impl Trie {
                 after = node.middle;
             }
         }
-        let delimiter = view_of(keys, &self.delimiters, first);
+        let leaf = view_of(keys, &self.delimiters, first);
         Exit {
             place: Place::Leaf(first),
-            right: delimiter.order(view).is_lt(),
+            right: leaf.order(view).is_lt(),
         }
     }
 

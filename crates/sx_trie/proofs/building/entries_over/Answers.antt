@@ -1,4 +1,4 @@
-use Rattle.std.proofs.Common.{◌≡◌, ℕ, ◌+◌, ◌-◌, ◌<◌, ◌≤◌, List, [], ◌∷◌, ◌++◌, length, get_or, take, sym, ap, subst, ◌∙◌, arith}
+use Rattle.std.proofs.Common.{◌≡◌, ℕ, List, [], ◌∷◌, ◌++◌, length, take, sym, ap, subst, ◌∙◌, arith}
 use Rattle.std.specs.Prelude.{map, slice_index_or}
 use Rattle.std.proofs.lemmas.List.{length-map, length_push}
 use Rattle.sx_spec_strings.specs.Bits.{key_bits}
@@ -53,7 +53,7 @@ node_over-node-requires-clause-splits c =
     let ds = delimiter_bits c.args.keys.now.lines c.args.delimiters.now in
     let keys = c.count_of-after.ensures.keys in
     splits ds keys _ c.in-Some.range
-      (top ds keys _ c.opening.ranges.items c.pop.new.self.items c.in-Some.range c.in-Some.ensures.items (c.opening.invariant.opened keys) c.opening.invariant.counted)
+    (top ds keys _ c.opening.ranges.items c.pop.new.self.items c.in-Some.range c.in-Some.ensures.items (c.opening.invariant.opened keys) c.opening.invariant.counted)
 
 pub opening-smaller : goal.opening-smaller
 opening-smaller c =
@@ -81,16 +81,16 @@ opening-preserved c =
     let pushed : c.push.new.self.items ≡ c.opening.entries.items ++ entry ∷ [] = c.in_ok-push.ensures.items in
     let inside = top_inside ds keys n before rest r c.in-Some.ensures.items (c.opening.invariant.opened keys) c.opening.invariant.counted in
     let step = opened_step ds keys n before rest r c.in-Some.ensures.items (c.opening.invariant.opened keys) c.opening.invariant.counted node
-      f.extent f.first f.after f.low f.high f.zeros f.ones c.open_range-in-Some.new.ranges.items c.open_range-in-Some-2.new.ranges.items c.in_ok-open_range-2.ensures c.in_ok-open_range-3.ensures in
+    f.extent f.first f.after f.low f.high f.zeros f.ones c.open_range-in-Some.new.ranges.items c.open_range-in-Some-2.new.ranges.items c.in_ok-open_range-2.ensures c.in_ok-open_range-3.ensures in
     record {
       counted = let more = ap length pushed ∙ length_push c.opening.entries.items entry in let all = step.1 in omega arith;
       opened = λ keys'. (opened_step ds keys' n before rest r c.in-Some.ensures.items (c.opening.invariant.opened keys') c.opening.invariant.counted node
-        f.extent f.first f.after f.low f.high f.zeros f.ones c.open_range-in-Some.new.ranges.items c.open_range-in-Some-2.new.ranges.items c.in_ok-open_range-2.ensures c.in_ok-open_range-3.ensures).0;
+          f.extent f.first f.after f.low f.high f.zeros f.ones c.open_range-in-Some.new.ranges.items c.open_range-in-Some-2.new.ranges.items c.in_ok-open_range-2.ensures c.in_ok-open_range-3.ensures).0;
       nodes = subst (λ (es : List Entry). map (λ (e : Entry). node_of e.node) es ≡ map (spec.node_of ds) (take (length es) (spec.extents_of ds))) (sym pushed)
-        (mapped_push (λ (e : Entry). node_of e.node) (spec.node_of ds) c.opening.entries.items entry (spec.extents_of ds) [] c.opening.invariant.nodes inside
+          (mapped_push (λ (e : Entry). node_of e.node) (spec.node_of ds) c.opening.entries.items entry (spec.extents_of ds) [] c.opening.invariant.nodes inside
           (top_node ds keys n before rest r c.in-Some.ensures.items (c.opening.invariant.opened keys) c.opening.invariant.counted node f.extent f.first f.after f.low f.high f.zeros f.ones));
       names = subst (λ (es : List Entry). map (λ (e : Entry). e.name) es ≡ map (spec.name_len (spec.extents_of ds)) (take (length es) (spec.extents_of ds))) (sym pushed)
-        (mapped_push (λ (e : Entry). e.name) (spec.name_len (spec.extents_of ds)) c.opening.entries.items entry (spec.extents_of ds) [] c.opening.invariant.names inside
+          (mapped_push (λ (e : Entry). e.name) (spec.name_len (spec.extents_of ds)) c.opening.entries.items entry (spec.extents_of ds) [] c.opening.invariant.names inside
           (top_name ds keys n before rest r c.in-Some.ensures.items (c.opening.invariant.opened keys) c.opening.invariant.counted node f.extent f.first f.after f.low f.high f.zeros f.ones));
     }
 

@@ -1,4 +1,4 @@
-use Rattle.std.proofs.Common.{◌≡◌, ℕ, ◌+◌, ◌-◌, length, take, vec_len}
+use Rattle.std.proofs.Common.{◌≡◌, ◌+◌, ◌-◌, length, take}
 use Rattle.std.specs.Prelude.{map}
 use Rattle.sx_spec_strings.specs.Bits.{AreKeyBits}
 use Rattle.sx_spec_kinds.specs.Trie as spec

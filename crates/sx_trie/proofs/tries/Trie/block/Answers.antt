@@ -1,4 +1,4 @@
-use Rattle.std.proofs.Common.{◌≡◌, ℕ, Bool, sym, ap, ◌∙◌}
+use Rattle.std.proofs.Common.{ℕ, Bool, sym, ap, ◌∙◌}
 use Rattle.std.specs.Prelude.{if◌then◌else◌}
 use Rattle.sx_spec_kinds.specs.Trie.{leaves_at, block_at_exit}
 use Rattle.sx_trie.specs.Tries.{place_of}

@@ -1,5 +1,5 @@
-use Rattle.std.proofs.Common.{◌≡◌, ℕ, ◌+◌, ◌-◌, ◌<◌, ◌≤◌, Bool, true, List, [], length, get_or, take, sym, ap, subst, ◌∙◌, arith}
-use Rattle.std.specs.Prelude.{map, slice_index_or}
+use Rattle.std.proofs.Common.{◌≡◌, ℕ, ◌+◌, ◌-◌, ◌<◌, Bool, true, List, [], length, get_or, take, sym, ap, subst, ◌∙◌, arith}
+use Rattle.std.specs.Prelude.{slice_index_or}
 use Rattle.std.proofs.lemmas.List.{length-map}
 use Rattle.std.proofs.lemmas.List.Sums.{count_by-le-length}
 use Rattle.sx_spec_strings.specs.Bits.{Bits, begins_with, is_below, key_bits, common_prefix}
@@ -7,7 +7,7 @@ use Rattle.sx_spec_kinds.specs.Trie.{Exit, inner, leaf, extents_of, node_of as n
 use Rattle.sx_spec_kinds.specs.Hollow.{Stand}
 use Rattle.sx_bits.specs.Views.{bits_of}
 use Rattle.sx_trie.specs.Tries.{Contents, delimiter_bits, node_of}
-use Rattle.sx_trie.proofs.Stands.{extent_at, under_at, node_inside, Found, found}
+use Rattle.sx_trie.proofs.Stands.{extent_at, under_at, node_inside, found}
 use Rattle.sx_trie.proofs.ExitWalk.{Walks, walk_starts, walk_stops, walk_left, walk_right, exit_at_inner, exit_at_leaf, right_by_order}
 use Rattle.sx_trie.proofs.tries.Trie.exit.Goals as goal
 
@@ -36,8 +36,8 @@ node-node-requires c =
     let many = ap length c.requires.built.nodes ∙ length-map (extents_of ds) (node_in ds) in
     omega arith
 
-pub returns-then-not-goes_on : goal.returns-then-not-goes_on
-returns-then-not-goes_on c =
+pub returns-then-not-goes_on-clause-value : goal.returns-then-not-goes_on-clause-value
+returns-then-not-goes_on-clause-value c =
     let lines = c.args.keys.now.lines in
     let ds = delimiter_bits lines c.args.self.now.delimiters in
     let keys = c.requires.built.keys in
@@ -51,14 +51,23 @@ returns-then-not-goes_on c =
     let node = found ds keys x s h more c.args.self.now.nodes c.requires.built.nodes (node_of c.node-node.result) c.node-node.ensures in
     let numbers = c.deref.ensures.value ∙ ap (λ (t : Contents). t.delimiters) c.self.view_is in
     let d_is : bits_of c.view_of-delimiter.result ≡ get_or ds c.loop-after.first [] =
-      c.view_of-delimiter.ensures ∙ ap (λ (ns : List ℕ). get_or (delimiter_bits lines ns) c.loop-after.first []) numbers in
+    c.view_of-delimiter.ensures ∙ ap (λ (ns : List ℕ). get_or (delimiter_bits lines ns) c.loop-after.first []) numbers in
     let d_e : begins_with (bits_of c.view_of-delimiter.result) (extent_at ds s) ≡ true =
-      ap (λ (d : Bits). begins_with d (extent_at ds s)) d_is ∙ under_at ds keys x s h more s.first (omega arith) (omega arith) (omega arith) in
+    ap (λ (d : Bits). begins_with d (extent_at ds s)) d_is ∙ under_at ds keys x s h more s.first (omega arith) (omega arith) (omega arith) in
     let stops = walk_stops (bits_of c.view_of-delimiter.result) x (extent_at ds s) c.node-node.result.extent node.extent_is d_e c.if-not-goes_on.ensures in
     let right = right_by_order (bits_of c.view_of-delimiter.result) x c.order.result c.is_lt.result c.order.ensures c.is_lt.ensures
-      ∙ ap (λ (d : Bits). is_below d x) d_is in
+    ∙ ap (λ (d : Bits). is_below d x) d_is in
     ap (λ (r : Bool). let e : Exit = record { place = inner s.node; right = r } in e) right
     ∙ exit_at_inner ds keys x s h more (omega arith) stops
+
+pub returns-then-not-goes_on-clause-place : goal.returns-then-not-goes_on-clause-place
+returns-then-not-goes_on-clause-place c =
+    let ds = delimiter_bits c.args.keys.now.lines c.args.self.now.delimiters in
+    let keys = c.requires.built.keys in
+    let (name, h) = c.loop-after.invariant.stands keys in
+    let inside = node_inside ds keys (bits_of c.args.view.now) _ h c.loop-after-test.true in
+    let many = ap length c.requires.built.nodes ∙ length-map (extents_of ds) (node_in ds) in
+    omega arith
 
 pub overflow_sub-at : goal.overflow_sub-at
 overflow_sub-at c =
@@ -95,7 +104,7 @@ overflow_add-at c =
     let node = found ds keys x s h more c.args.self.now.nodes c.requires.built.nodes (node_of c.node-node.result) c.node-node.ensures in
     let numbers = c.deref.ensures.value ∙ ap (λ (t : Contents). t.delimiters) c.self.view_is in
     let d_is : bits_of c.view_of-delimiter.result ≡ get_or ds c.loop-after.first [] =
-      c.view_of-delimiter.ensures ∙ ap (λ (ns : List ℕ). get_or (delimiter_bits lines ns) c.loop-after.first []) numbers in
+    c.view_of-delimiter.ensures ∙ ap (λ (ns : List ℕ). get_or (delimiter_bits lines ns) c.loop-after.first []) numbers in
     let goes = c.if-not-goes_on.ensures in
     let same = ap (λ (d : Bits). length (common_prefix d x)) d_is in
     let (next, stands) = walk_right ds keys x s h more c.node-node.result.extent c.node-node.result.first c.node-node.result.middle c.node-node.result.after node (omega arith) goes.0 (omega arith) (sym c.bit.ensures ∙ c.if-bit.true) in
@@ -182,17 +191,17 @@ loop-after-preserved-then-bit c =
       ordered = omega arith;
       inside = omega arith;
       stands = λ keys'.
-        let (name', h') = c.loop-after.invariant.stands keys' in
-        let s' : Stand = record { node = c.loop-after.at; leaves = c.loop-after.after - c.loop-after.first; first = c.loop-after.first; pos = name' } in
-        let node' = found ds keys' x s' h' more c.args.self.now.nodes c.requires.built.nodes (node_of c.node-node.result) c.node-node.ensures in
-        let numbers = c.deref.ensures.value ∙ ap (λ (t : Contents). t.delimiters) c.self.view_is in
-        let d_is : bits_of c.view_of-delimiter.result ≡ get_or ds c.loop-after.first [] =
+          let (name', h') = c.loop-after.invariant.stands keys' in
+          let s' : Stand = record { node = c.loop-after.at; leaves = c.loop-after.after - c.loop-after.first; first = c.loop-after.first; pos = name' } in
+          let node' = found ds keys' x s' h' more c.args.self.now.nodes c.requires.built.nodes (node_of c.node-node.result) c.node-node.ensures in
+          let numbers = c.deref.ensures.value ∙ ap (λ (t : Contents). t.delimiters) c.self.view_is in
+          let d_is : bits_of c.view_of-delimiter.result ≡ get_or ds c.loop-after.first [] =
           c.view_of-delimiter.ensures ∙ ap (λ (ns : List ℕ). get_or (delimiter_bits lines ns) c.loop-after.first []) numbers in
-        let goes = c.if-not-goes_on.ensures in
-        let same = ap (λ (d : Bits). length (common_prefix d x)) d_is in
-        let e1 : c.node-node.result.after - c.node-node.result.middle ≡ c.loop-after.after - c.node-node.result.middle = omega arith in
-        subst (λ n. Walks ds keys' x (c.loop-after.at + (c.node-node.result.middle - c.node-node.result.first)) n c.node-node.result.middle) e1
-        (walk_right ds keys' x s' h' more c.node-node.result.extent c.node-node.result.first c.node-node.result.middle c.node-node.result.after node' (omega arith) goes.0 (omega arith) (sym c.bit.ensures ∙ c.if-bit.true));
+          let goes = c.if-not-goes_on.ensures in
+          let same = ap (λ (d : Bits). length (common_prefix d x)) d_is in
+          let e1 : c.node-node.result.after - c.node-node.result.middle ≡ c.loop-after.after - c.node-node.result.middle = omega arith in
+          subst (λ n. Walks ds keys' x (c.loop-after.at + (c.node-node.result.middle - c.node-node.result.first)) n c.node-node.result.middle) e1
+          (walk_right ds keys' x s' h' more c.node-node.result.extent c.node-node.result.first c.node-node.result.middle c.node-node.result.after node' (omega arith) goes.0 (omega arith) (sym c.bit.ensures ∙ c.if-bit.true));
     }
 
 pub loop-after-preserved : goal.loop-after-preserved
@@ -217,21 +226,21 @@ loop-after-preserved c =
       ordered = omega arith;
       inside = omega arith;
       stands = λ keys'.
-        let (name', h') = c.loop-after.invariant.stands keys' in
-        let s' : Stand = record { node = c.loop-after.at; leaves = c.loop-after.after - c.loop-after.first; first = c.loop-after.first; pos = name' } in
-        let node' = found ds keys' x s' h' more c.args.self.now.nodes c.requires.built.nodes (node_of c.node-node.result) c.node-node.ensures in
-        let numbers = c.deref.ensures.value ∙ ap (λ (t : Contents). t.delimiters) c.self.view_is in
-        let d_is : bits_of c.view_of-delimiter.result ≡ get_or ds c.loop-after.first [] =
+          let (name', h') = c.loop-after.invariant.stands keys' in
+          let s' : Stand = record { node = c.loop-after.at; leaves = c.loop-after.after - c.loop-after.first; first = c.loop-after.first; pos = name' } in
+          let node' = found ds keys' x s' h' more c.args.self.now.nodes c.requires.built.nodes (node_of c.node-node.result) c.node-node.ensures in
+          let numbers = c.deref.ensures.value ∙ ap (λ (t : Contents). t.delimiters) c.self.view_is in
+          let d_is : bits_of c.view_of-delimiter.result ≡ get_or ds c.loop-after.first [] =
           c.view_of-delimiter.ensures ∙ ap (λ (ns : List ℕ). get_or (delimiter_bits lines ns) c.loop-after.first []) numbers in
-        let goes = c.if-not-goes_on.ensures in
-        let same = ap (λ (d : Bits). length (common_prefix d x)) d_is in
-        let e1 : c.node-node.result.middle - c.node-node.result.first ≡ c.node-node.result.middle - c.loop-after.first = omega arith in
-        subst (λ n. Walks ds keys' x (c.loop-after.at + 1) n c.loop-after.first) e1
-        (walk_left ds keys' x s' h' more c.node-node.result.extent c.node-node.result.first c.node-node.result.middle c.node-node.result.after node' (omega arith) goes.0 (omega arith) (sym c.bit.ensures ∙ c.if-bit.false));
+          let goes = c.if-not-goes_on.ensures in
+          let same = ap (λ (d : Bits). length (common_prefix d x)) d_is in
+          let e1 : c.node-node.result.middle - c.node-node.result.first ≡ c.node-node.result.middle - c.loop-after.first = omega arith in
+          subst (λ n. Walks ds keys' x (c.loop-after.at + 1) n c.loop-after.first) e1
+          (walk_left ds keys' x s' h' more c.node-node.result.extent c.node-node.result.first c.node-node.result.middle c.node-node.result.after node' (omega arith) goes.0 (omega arith) (sym c.bit.ensures ∙ c.if-bit.false));
     }
 
-pub returns : goal.returns
-returns c =
+pub returns-clause-value : goal.returns-clause-value
+returns-clause-value c =
     let lines = c.args.keys.now.lines in
     let ds = delimiter_bits lines c.args.self.now.delimiters in
     let keys = c.requires.built.keys in
@@ -243,9 +252,9 @@ returns c =
     let ordered = c.loop-after.invariant.ordered in
     let last = c.loop-after-test.false in
     let numbers = c.deref-2.ensures.value ∙ ap (λ (t : Contents). t.delimiters) c.self.view_is in
-    let d_is : bits_of c.view_of-delimiter-2.result ≡ get_or ds c.loop-after.first [] =
-      c.view_of-delimiter-2.ensures ∙ ap (λ (ns : List ℕ). get_or (delimiter_bits lines ns) c.loop-after.first []) numbers in
-    let right = right_by_order (bits_of c.view_of-delimiter-2.result) x c.order-2.result c.is_lt-2.result c.order-2.ensures c.is_lt-2.ensures
-      ∙ ap (λ (d : Bits). is_below d x) d_is in
+    let d_is : bits_of c.view_of-leaf.result ≡ get_or ds c.loop-after.first [] =
+    c.view_of-leaf.ensures ∙ ap (λ (ns : List ℕ). get_or (delimiter_bits lines ns) c.loop-after.first []) numbers in
+    let right = right_by_order (bits_of c.view_of-leaf.result) x c.order-2.result c.is_lt-2.result c.order-2.ensures c.is_lt-2.ensures
+    ∙ ap (λ (d : Bits). is_below d x) d_is in
     ap (λ (r : Bool). let e : Exit = record { place = leaf s.first; right = r } in e) right
     ∙ exit_at_leaf ds keys x s h (omega arith) (omega arith)

@@ -1,4 +1,4 @@
-use Rattle.std.proofs.Common.{◌≡◌, ◌-◌, ◌<◌, ◌≤◌, length}
+use Rattle.std.proofs.Common.{◌-◌, ◌<◌, ◌≤◌, length}
 use Rattle.sx_spec_strings.specs.Bits.{AreKeyBits}
 use Rattle.sx_bits.specs.Views.{bits_of}
 use Rattle.sx_trie.specs.Tries.{delimiter_bits}

@@ -1,4 +1,4 @@
-use Rattle.std.proofs.Common.{◌≡◌, ◌≤◌, length, ap, ◌∙◌, arith}
+use Rattle.std.proofs.Common.{length, ap, arith}
 use Rattle.std.proofs.lemmas.List.{length-map}
 use Rattle.sx_trie.specs.Tries.{Contents, node_of}
 use Rattle.sx_trie.specs.declared.nodes.Entry.{Entry}
