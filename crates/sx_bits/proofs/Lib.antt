@@ -9,3 +9,4 @@ pub mod PackedPieces
 pub mod NumberBytes
 pub mod Prefixes
 pub mod LineWords
+pub mod KeyListBits

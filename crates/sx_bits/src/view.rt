@@ -22,8 +22,7 @@ pub struct BitView<'a> {
 }
 
 impl<'a> BitView<'a> {
-    ghost use Rattle.std.specs.Prelude.{◌-◌, ◌<◌, take, drop, min};
-    ghost use Rattle.std.specs.Prelude.{◌==◌};
+    ghost use Rattle.std.specs.Prelude.{◌==◌, ◌-◌, ◌<◌, take, drop, min};
     ghost use Rattle.std.specs.Int.{div_ceil, bit_at as number_bit};
     ghost use Rattle.sx_spec_strings.specs.Bits.{bit_at, bits_cmp, common_prefix, key_bits, packed_bytes};
     ghost use Rattle.sx_bits.specs.Views.{bits_of};

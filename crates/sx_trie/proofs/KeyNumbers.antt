@@ -1,26 +1,12 @@
 -- Delimiters that are named by rising numbers of keys.
 use Rattle.std.proofs.Common.{◌≡◌, ℕ, zero, suc, ◌+◌, ◌<◌, ◌≤◌, List, [], ◌∷◌, length, get_or, sym, ap, ap₂, ◌∙◌, arith}
 use Rattle.std.specs.Prelude.{map, slice_index, slice_index_or}
-use Rattle.std.specs.List.{AllByRecursion}
 use Rattle.std.proofs.lemmas.List.{length-map, get_or-map}
 use Rattle.sx_spec_strings.specs.Bits.{AreKeyBits, begins_with, is_below, key_bits}
-use Rattle.sx_spec_strings.specs.Laws.{IsText}
-use Rattle.sx_spec_strings.proofs.KeyBits.{rising_texts_are_key_bits}
-use Rattle.sx_spec.proofs.Counts.{all_at}
-use Rattle.sx_spec.proofs.Functions.{each_element}
-use Rattle.sx_spec.proofs.KeyFiles.{faultless_lines_are_keys}
-use Rattle.sx_spec.proofs.Replies.{text_of}
+use Rattle.sx_bits.proofs.KeyListBits.{key_list_bits}
 use Rattle.sx_bits.specs.KeyLists.{Keys, IsKeyList}
 use Rattle.sx_trie.specs.Tries.{AreRising, delimiter_bits}
 use Rattle.sx_trie.proofs.Delimiters.{key_pair, keys_from_pairs}
-
--- the bits of a key list's lines are keys
-pub key_list_bits : (keys : Keys) → IsKeyList keys → AreKeyBits (map key_bits keys.lines)
-key_list_bits keys valid =
-    let file = faultless_lines_are_keys keys.limits keys.lines valid.faultless in
-    let texts : AllByRecursion IsText keys.lines =
-    each_element IsText keys.lines (λ i line at. text_of line (file.texts i line at) (all_at (AllByRecursion (λ b. b < 256)) keys.lines valid.bytes i line at)) in
-    rising_texts_are_key_bits keys.lines texts file.rising
 
 -- a delimiter is the key of its number
 delimiter_at : (lines : List (List ℕ)) (numbers : List ℕ) (i : ℕ) → i < length numbers → slice_index numbers i < length lines

@@ -3,6 +3,7 @@
 ghost use Rattle.std.specs.Prelude.{◌≡◌, ◌⊎◌, ◌+◌, ◌-◌, ◌<◌, ◌≤◌, length, slice_index};
 ghost use Rattle.std.specs.Bool.{MatchBool};
 ghost use Rattle.sx_spec_strings.specs.Bits.{common_prefix};
+ghost use Rattle.sx_spec_kinds.specs.Blocks.{block_of};
 ghost use Rattle.sx_spec_kinds.specs.Fattest.{fattest as fattest_of};
 ghost use Rattle.sx_spec_kinds.specs.Trie.{node_at, leaves_at, block_at_exit, exit_of as exit_in};
 ghost use Rattle.sx_bits.specs.Views.{bits_of};
@@ -80,6 +81,8 @@ impl Trie {
         requires some { 0 < length self.now.delimiters }
         ensures place { IsPlaceOf self.now result.place }
         ensures value { exit_of result ≡ exit_in (delimiter_bits keys.now.lines self.now.delimiters) (bits_of view.now) }
+        ensures below { block_at_exit self.now.nodes (exit_of result)
+            ≡ block_of (delimiter_bits keys.now.lines self.now.delimiters) (bits_of view.now) }
     {
         let mut at = 0;
         let mut first = 0;
@@ -108,8 +111,8 @@ impl Trie {
         }
     }
 
-    /// The block at an exit of this trie: the number of the delimiters below the strings that leave
-    /// it there.
+    /// The block at an exit of this trie: how many delimiters are below the strings that leave it
+    /// there.
     pub fn block(&self, e: &Exit) -> u32
         requires { IsPlaceOf self.now e.now.place }
         ensures { result ≡ block_at_exit self.now.nodes (exit_of e.now) }

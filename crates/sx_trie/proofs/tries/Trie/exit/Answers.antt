@@ -3,13 +3,23 @@ use Rattle.std.specs.Prelude.{slice_index_or}
 use Rattle.std.proofs.lemmas.List.{length-map}
 use Rattle.std.proofs.lemmas.List.Sums.{count_by-le-length}
 use Rattle.sx_spec_strings.specs.Bits.{Bits, begins_with, is_below, key_bits, common_prefix}
-use Rattle.sx_spec_kinds.specs.Trie.{Exit, inner, leaf, extents_of, node_of as node_in}
+use Rattle.sx_spec_kinds.specs.Blocks.{block_of}
+use Rattle.sx_spec_kinds.proofs.ExitLaws.{exit_block}
+use Rattle.sx_spec_kinds.specs.Trie.{Exit, inner, leaf, extents_of, nodes_of, block_at_exit, exit_of as exit_in, node_of as node_in}
 use Rattle.sx_spec_kinds.specs.Hollow.{Stand}
 use Rattle.sx_bits.specs.Views.{bits_of}
-use Rattle.sx_trie.specs.Tries.{Contents, delimiter_bits, node_of}
+use Rattle.sx_trie.specs.Tries.{Contents, IsTrieOf, delimiter_bits, node_of}
 use Rattle.sx_trie.proofs.Stands.{extent_at, under_at, node_inside, found}
 use Rattle.sx_trie.proofs.ExitWalk.{Walks, walk_starts, walk_stops, walk_left, walk_right, exit_at_inner, exit_at_leaf, right_by_order}
 use Rattle.sx_trie.proofs.tries.Trie.exit.Goals as goal
+
+-- the block at the exit of a string
+block_below : (lines : List (List ℕ)) (t : Contents) → IsTrieOf lines t → 0 < length t.delimiters → (x : Bits) (e : Exit) → e ≡ exit_in (delimiter_bits lines t.delimiters) x
+    → block_at_exit t.nodes e ≡ block_of (delimiter_bits lines t.delimiters) x
+block_below lines t built some x e is =
+    let ds = delimiter_bits lines t.delimiters in
+    let many = length-map t.delimiters (λ i. key_bits (slice_index_or lines i [])) in
+    ap (λ ns. block_at_exit ns e) built.nodes ∙ ap (block_at_exit (nodes_of ds)) is ∙ exit_block ds built.keys x (omega arith)
 
 count_of : (lines : List (List ℕ)) (numbers : List ℕ) → length (delimiter_bits lines numbers) ≡ length numbers
 count_of lines numbers = length-map numbers (λ i. key_bits (slice_index_or lines i []))
@@ -258,3 +268,11 @@ returns-clause-value c =
     ∙ ap (λ (d : Bits). is_below d x) d_is in
     ap (λ (r : Bool). let e : Exit = record { place = leaf s.first; right = r } in e) right
     ∙ exit_at_leaf ds keys x s h (omega arith) (omega arith)
+
+pub returns-then-not-goes_on-clause-below : goal.returns-then-not-goes_on-clause-below
+returns-then-not-goes_on-clause-below c =
+    block_below c.args.keys.now.lines c.args.self.now c.requires.built c.requires.some (bits_of c.args.view.now) _ (returns-then-not-goes_on-clause-value c)
+
+pub returns-clause-below : goal.returns-clause-below
+returns-clause-below c =
+    block_below c.args.keys.now.lines c.args.self.now c.requires.built c.requires.some (bits_of c.args.view.now) _ (returns-clause-value c)
