@@ -1,0 +1,141 @@
+-- The equations of a set, as the ones whose numbers are chosen.
+use Rattle.std.proofs.Common.{◌≡◌, ◌≢◌, ℕ, zero, suc, ◌+◌, ◌*◌, ◌%◌, ◌<◌, ◌≤◌, Bool, true, false, cond, List, [], ◌∷◌, ◌++◌, length, get_or, map, refl, sym, ap, subst, ◌∙◌, arith, Some, None, inl, inr, ◌⊎◌}
+use Rattle.std.specs.Prelude.{◌==◌, slice_get, fold, bit_xor, filter, flat_map}
+use Rattle.std.specs.List.{AllByRecursion, cons_option, range_with_len}
+use Rattle.std.specs.List.Sorted.{IsStrictlyIncreasing}
+use Rattle.std.specs.Int.Bits.{xor_assoc, xor_zero_r}
+use Rattle.std.proofs.lemmas.Bool.Decides.{Decides-eqb}
+use Rattle.std.proofs.lemmas.List.{append_assoc, length_push, append-nil}
+use Rattle.std.proofs.lemmas.List.FromFn.{length-range_with_len, get_or-range_with_len}
+use Rattle.std.proofs.lemmas.List.Kept.{IsStrictlyIncreasing-filter}
+use Rattle.std.proofs.lemmas.List.Sums.{sum_by-append}
+use Rattle.sx_spec.specs.declared.Equation.{Equation}
+use Rattle.sx_spec.specs.Systems.{unknowns, vertices, count_of, chosen, all_unknowns, xor_all, IsIndexSet, IsContradiction, IsSum}
+use Rattle.sx_solve.specs.declared.rows.Row.{Row}
+use Rattle.sx_solve.specs.Rows.{bit, xor_by, times_by, values, IsRow, IsContradictory}
+use Rattle.sx_solve.proofs.Marks.{mark_cases}
+use Rattle.sx_solve.proofs.WordBits.{bit_small}
+
+-- those of a list, from a place on, whose place is marked
+picked : {X : Type 0} → (ℕ → ℕ) → ℕ → List X → List X
+picked marks i [] = []
+picked marks i (x ∷ later) = cond (marks i == 1) (x ∷ picked marks (i + 1) later) (picked marks (i + 1) later)
+
+at_length : {X : Type 0} (xs : List X) (y : X) (ys : List X) → slice_get (xs ++ y ∷ ys) (length xs) ≡ Some y
+at_length [] y ys = refl
+at_length (x ∷ xs) y ys = at_length xs y ys
+
+chosen_behind : {X : Type 0} (marks : ℕ → ℕ) (xs ys : List X) (a : ℕ) → a ≡ length xs → chosen (xs ++ ys) (filter (λ i. marks i == 1) (range_with_len a (length ys))) ≡ picked marks a ys
+unfolding picked
+chosen_behind marks xs [] a front = refl
+chosen_behind {X} marks xs (y ∷ ys) a front =
+    let at : slice_get (xs ++ y ∷ ys) a ≡ Some y = rw front (at_length xs y ys) in
+    let regrouped : (xs ++ y ∷ []) ++ ys ≡ xs ++ y ∷ ys = append_assoc xs (y ∷ []) ys in
+    let rest : chosen ((xs ++ y ∷ []) ++ ys) (filter (λ i. marks i == 1) (range_with_len (a + 1) (length ys))) ≡ picked marks (a + 1) ys =
+    chosen_behind marks (xs ++ y ∷ []) ys (a + 1) (let e = length_push xs y in omega arith) in
+    let rest_here : chosen (xs ++ y ∷ ys) (filter (λ i. marks i == 1) (range_with_len (a + 1) (length ys))) ≡ picked marks (a + 1) ys =
+    subst (λ (zs : List X). chosen zs (filter (λ i. marks i == 1) (range_with_len (a + 1) (length ys))) ≡ picked marks (a + 1) ys) regrouped rest in
+    elim (marks a == 1) as (λ b. chosen (xs ++ y ∷ ys) (cond b (a ∷ filter (λ i. marks i == 1) (range_with_len (a + 1) (length ys))) (filter (λ i. marks i == 1) (range_with_len (a + 1) (length ys))))
+        ≡ cond b (y ∷ picked marks (a + 1) ys) (picked marks (a + 1) ys)) [
+      | true ↦ ap (λ o. cons_option o (chosen (xs ++ y ∷ ys) (filter (λ i. marks i == 1) (range_with_len (a + 1) (length ys))))) at ∙ ap (λ zs. y ∷ zs) rest_here
+      | false ↦ rest_here
+    ]
+
+-- ---- sums over what is picked
+
+fold_xor : (a : ℕ) (xs : List ℕ) → fold bit_xor a xs ≡ bit_xor a (xor_all xs)
+fold_xor a [] = sym (xor_zero_r a)
+fold_xor a (x ∷ xs) = fold_xor (bit_xor a x) xs ∙ xor_assoc a x (xor_all xs) ∙ ap (bit_xor a) (sym (fold_xor x xs))
+
+-- a mark of 1, or none
+mark_is : (m : ℕ) → m < 2 → ((m ≡ 1) × ((m == 1) ≡ true)) ⊎ ((m ≡ 0) × ((m == 1) ≡ false))
+mark_is m small = elim (m == 1) as (λ b. (m == 1) ≡ b → ((m ≡ 1) × (b ≡ true)) ⊎ ((m ≡ 0) × (b ≡ false))) [
+  | true ↦ λ e. inl ((Decides-eqb m 1).0 e, refl)
+  | false ↦ λ e. inr (elim (mark_cases m small) [
+    | inl none ↦ none
+    | inr one ↦ absurd (let t : (m == 1) ≡ true = (Decides-eqb m 1).1 one in cc)
+  ], refl)
+] refl
+
+picked_xor : (marks : ℕ → ℕ) → ((j : ℕ) → marks j < 2) → (i : ℕ) (qs : List Equation) → xor_all (map (λ q. q.value) (picked marks i qs)) ≡ xor_by marks i (values qs)
+unfolding picked
+picked_xor marks small i [] = refl
+picked_xor marks small i (q ∷ qs) =
+    let rest = picked_xor marks small (i + 1) qs in
+    elim (mark_is (marks i) (small i)) [
+      | inl one ↦
+          let scale : marks i * q.value ≡ q.value = rw one.0 (let e : 1 * q.value ≡ q.value = omega arith in e) in
+          ap (λ b. xor_all (map (λ p. p.value) (cond b (q ∷ picked marks (i + 1) qs) (picked marks (i + 1) qs)))) one.1
+          ∙ fold_xor q.value (map (λ p. p.value) (picked marks (i + 1) qs))
+          ∙ ap (bit_xor q.value) rest ∙ ap (λ x. bit_xor x (xor_by marks (i + 1) (values qs))) (sym scale)
+      | inr none ↦
+          let scale : marks i * q.value ≡ 0 = rw none.0 (let e : 0 * q.value ≡ 0 = omega arith in e) in
+          ap (λ b. xor_all (map (λ p. p.value) (cond b (q ∷ picked marks (i + 1) qs) (picked marks (i + 1) qs)))) none.1
+          ∙ rest ∙ ap (λ x. bit_xor x (xor_by marks (i + 1) (values qs))) (sym scale)
+    ]
+
+picked_times : (marks : ℕ → ℕ) → ((j : ℕ) → marks j < 2) → (i : ℕ) (qs : List Equation) (v : ℕ) → count_of v (all_unknowns (picked marks i qs)) ≡ times_by marks i qs v
+unfolding picked
+picked_times marks small i [] v = refl
+picked_times marks small i (q ∷ qs) v =
+    let rest = picked_times marks small (i + 1) qs v in
+    elim (mark_is (marks i) (small i)) [
+      | inl one ↦
+          let scale : marks i * count_of v (vertices (unknowns q)) ≡ count_of v (vertices (unknowns q)) = rw one.0 (let e : 1 * count_of v (vertices (unknowns q)) ≡ count_of v (vertices (unknowns q)) = omega arith in e) in
+          let split = sum_by-append (λ y. cond (y == v) 1 0) (vertices (unknowns q)) (all_unknowns (picked marks (i + 1) qs)) in
+          ap (λ b. count_of v (all_unknowns (cond b (q ∷ picked marks (i + 1) qs) (picked marks (i + 1) qs)))) one.1
+          ∙ split ∙ (omega arith)
+      | inr none ↦
+          let scale : marks i * count_of v (vertices (unknowns q)) ≡ 0 = rw none.0 (let e : 0 * count_of v (vertices (unknowns q)) ≡ 0 = omega arith in e) in
+          ap (λ b. count_of v (all_unknowns (cond b (q ∷ picked marks (i + 1) qs) (picked marks (i + 1) qs)))) none.1
+          ∙ rest ∙ (omega arith)
+    ]
+
+-- ---- a row without unknowns is a sum
+
+range_rising : (a n : ℕ) → IsStrictlyIncreasing (range_with_len a n)
+range_rising a n k h =
+    let size = length-range_with_len a n in
+    let here = get_or-range_with_len a n k 0 (omega arith) in
+    let next = get_or-range_with_len a n (k + 1) 0 (omega arith) in
+    omega arith
+
+filtered_within : (p : ℕ → Bool) (a n m : ℕ) → a + n ≤ m → AllByRecursion (λ i. i < m) (filter p (range_with_len a n))
+filtered_within p a zero m fits = tt
+filtered_within p a (suc n) m fits =
+    elim (p a) as (λ b. AllByRecursion (λ i. i < m) (cond b (a ∷ filter p (range_with_len (a + 1) n)) (filter p (range_with_len (a + 1) n)))) [
+      | true ↦ (omega arith, filtered_within p (a + 1) n m (omega arith))
+      | false ↦ filtered_within p (a + 1) n m (omega arith)
+    ]
+
+all_even : (equations : List Equation) (xs : List ℕ) → ((v : ℕ) → count_of v (all_unknowns equations) % 2 ≡ 0) → AllByRecursion (λ v. count_of v (all_unknowns equations) % 2 ≡ 0) xs
+all_even equations [] even = tt
+all_even equations (x ∷ xs) even = (even x, all_even equations xs even)
+
+pub contradictory_sum : (equations : List Equation) (r : Row) → IsContradictory equations r
+    → IsSum equations (filter (λ i. bit r.set.items i == 1) (range_with_len 0 (length equations)))
+contradictory_sum equations r is =
+    let marks = bit r.set.items in
+    let numbers = filter (λ i. marks i == 1) (range_with_len 0 (length equations)) in
+    let those : chosen equations numbers ≡ picked marks 0 equations = chosen_behind marks [] equations 0 refl in
+    let value : xor_all (map (λ q. q.value) (chosen equations numbers)) ≡ r.value =
+    ap (λ (qs : List Equation). xor_all (map (λ q. q.value) qs)) those ∙ picked_xor marks (bit_small r.set.items) 0 equations ∙ sym is.sum.value in
+    record {
+      set = record {
+        rising = IsStrictlyIncreasing-filter (λ i. marks i == 1) (range_with_len 0 (length equations)) (range_rising 0 (length equations));
+        within = filtered_within (λ i. marks i == 1) 0 (length equations) (length equations) (omega arith);
+        nonempty = some_number numbers value;
+      };
+      sum = record {
+        even = all_even (chosen equations numbers) (all_unknowns (chosen equations numbers)) (λ v.
+            let times : count_of v (all_unknowns (chosen equations numbers)) ≡ times_by marks 0 equations v = ap (λ (qs : List Equation). count_of v (all_unknowns qs)) those ∙ picked_times marks (bit_small r.set.items) 0 equations v in
+            let bits = is.sum.unknowns v in
+            let none = is.none v in
+            omega arith);
+        value = λ zero_value. is.value (sym value ∙ zero_value);
+      };
+    }
+  where
+    some_number : (numbers : List ℕ) → xor_all (map (λ q. q.value) (chosen equations numbers)) ≡ r.value → 0 < length numbers
+    some_number [] value = absurd (is.value (sym value))
+    some_number (n ∷ numbers) value = omega arith

@@ -1,0 +1,5 @@
+pub mod Marks
+pub mod WordBits
+pub mod Sums
+pub mod Filled
+pub mod Chosen
