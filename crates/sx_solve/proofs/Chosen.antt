@@ -1,18 +1,19 @@
 -- The equations of a set, as the ones whose numbers are chosen.
-use Rattle.std.proofs.Common.{◌≡◌, ◌≢◌, ℕ, zero, suc, ◌+◌, ◌*◌, ◌%◌, ◌<◌, ◌≤◌, Bool, true, false, cond, List, [], ◌∷◌, ◌++◌, length, get_or, map, refl, sym, ap, subst, ◌∙◌, arith, Some, None, inl, inr, ◌⊎◌}
-use Rattle.std.specs.Prelude.{◌==◌, slice_get, fold, bit_xor, filter, flat_map}
+use Rattle.std.proofs.Common.{◌≡◌, ℕ, zero, suc, ◌+◌, ◌*◌, ◌%◌, ◌<◌, ◌≤◌, Bool, true, false, cond, List, [], ◌∷◌, ◌++◌, length, map, refl, sym, ap, subst, ◌∙◌, arith, Some, inl, inr, ◌⊎◌, zero-add}
+use Rattle.std.specs.Prelude.{◌==◌, slice_get, fold, bit_xor, filter}
 use Rattle.std.specs.List.{AllByRecursion, cons_option, range_with_len}
 use Rattle.std.specs.List.Sorted.{IsStrictlyIncreasing}
 use Rattle.std.specs.Int.Bits.{xor_assoc, xor_zero_r}
 use Rattle.std.proofs.lemmas.Bool.Decides.{Decides-eqb}
-use Rattle.std.proofs.lemmas.List.{append_assoc, length_push, append-nil}
+use Rattle.std.proofs.lemmas.List.{append_assoc, length_push}
 use Rattle.std.proofs.lemmas.List.FromFn.{length-range_with_len, get_or-range_with_len}
+use Rattle.std.proofs.lemmas.List.Elements.{filter-append}
 use Rattle.std.proofs.lemmas.List.Kept.{IsStrictlyIncreasing-filter}
 use Rattle.std.proofs.lemmas.List.Sums.{sum_by-append}
 use Rattle.sx_spec.specs.declared.Equation.{Equation}
-use Rattle.sx_spec.specs.Systems.{unknowns, vertices, count_of, chosen, all_unknowns, xor_all, IsIndexSet, IsContradiction, IsSum}
+use Rattle.sx_spec.specs.Systems.{unknowns, vertices, count_of, chosen, all_unknowns, xor_all, IsSum}
 use Rattle.sx_solve.specs.declared.rows.Row.{Row}
-use Rattle.sx_solve.specs.Rows.{bit, xor_by, times_by, values, IsRow, IsContradictory}
+use Rattle.sx_solve.specs.Rows.{bit, xor_by, times_by, values, IsContradictory}
 use Rattle.sx_solve.proofs.Marks.{mark_cases}
 use Rattle.sx_solve.proofs.WordBits.{bit_small}
 
@@ -36,7 +37,7 @@ chosen_behind {X} marks xs (y ∷ ys) a front =
     let rest_here : chosen (xs ++ y ∷ ys) (filter (λ i. marks i == 1) (range_with_len (a + 1) (length ys))) ≡ picked marks (a + 1) ys =
     subst (λ (zs : List X). chosen zs (filter (λ i. marks i == 1) (range_with_len (a + 1) (length ys))) ≡ picked marks (a + 1) ys) regrouped rest in
     elim (marks a == 1) as (λ b. chosen (xs ++ y ∷ ys) (cond b (a ∷ filter (λ i. marks i == 1) (range_with_len (a + 1) (length ys))) (filter (λ i. marks i == 1) (range_with_len (a + 1) (length ys))))
-        ≡ cond b (y ∷ picked marks (a + 1) ys) (picked marks (a + 1) ys)) [
+    ≡ cond b (y ∷ picked marks (a + 1) ys) (picked marks (a + 1) ys)) [
       | true ↦ ap (λ o. cons_option o (chosen (xs ++ y ∷ ys) (filter (λ i. marks i == 1) (range_with_len (a + 1) (length ys))))) at ∙ ap (λ zs. y ∷ zs) rest_here
       | false ↦ rest_here
     ]
@@ -51,10 +52,13 @@ fold_xor a (x ∷ xs) = fold_xor (bit_xor a x) xs ∙ xor_assoc a x (xor_all xs)
 mark_is : (m : ℕ) → m < 2 → ((m ≡ 1) × ((m == 1) ≡ true)) ⊎ ((m ≡ 0) × ((m == 1) ≡ false))
 mark_is m small = elim (m == 1) as (λ b. (m == 1) ≡ b → ((m ≡ 1) × (b ≡ true)) ⊎ ((m ≡ 0) × (b ≡ false))) [
   | true ↦ λ e. inl ((Decides-eqb m 1).0 e, refl)
-  | false ↦ λ e. inr (elim (mark_cases m small) [
-    | inl none ↦ none
-    | inr one ↦ absurd (let t : (m == 1) ≡ true = (Decides-eqb m 1).1 one in cc)
-  ], refl)
+  | false ↦ λ e. inr (
+    elim (mark_cases m small) [
+      | inl none ↦ none
+      | inr one ↦ absurd (let t : (m == 1) ≡ true = (Decides-eqb m 1).1 one in cc)
+    ],
+    refl,
+  )
 ] refl
 
 picked_xor : (marks : ℕ → ℕ) → ((j : ℕ) → marks j < 2) → (i : ℕ) (qs : List Equation) → xor_all (map (λ q. q.value) (picked marks i qs)) ≡ xor_by marks i (values qs)
@@ -90,6 +94,22 @@ picked_times marks small i (q ∷ qs) v =
           ap (λ b. count_of v (all_unknowns (cond b (q ∷ picked marks (i + 1) qs) (picked marks (i + 1) qs)))) none.1
           ∙ rest ∙ (omega arith)
     ]
+
+-- ---- the numbers that are marked
+
+range_more : (a n : ℕ) → range_with_len a (n + 1) ≡ range_with_len a n ++ (a + n) ∷ []
+range_more a zero = let e : a ≡ a + 0 = omega arith in ap (λ k. k ∷ []) e
+range_more a (suc n) =
+    let e : (a + 1) + n ≡ a + suc n = omega arith in
+    let rest : range_with_len (a + 1) (n + 1) ≡ range_with_len (a + 1) n ++ (a + suc n) ∷ [] =
+    range_more (a + 1) n ∙ ap (λ k. range_with_len (a + 1) n ++ k ∷ []) e in
+    let next : suc n + 1 ≡ suc (n + 1) = omega arith in
+    ap (range_with_len a) next ∙ ap (λ xs. a ∷ xs) rest
+
+pub marked_more : (p : ℕ → Bool) (n : ℕ) → filter p (range_with_len 0 (n + 1)) ≡ filter p (range_with_len 0 n) ++ cond (p n) (n ∷ []) []
+marked_more p n =
+    ap (filter p) (range_more 0 n ∙ ap (λ k. range_with_len 0 n ++ k ∷ []) (zero-add n))
+    ∙ filter-append p (range_with_len 0 n) (n ∷ [])
 
 -- ---- a row without unknowns is a sum
 

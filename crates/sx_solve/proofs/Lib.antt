@@ -3,3 +3,4 @@ pub mod WordBits
 pub mod Sums
 pub mod Filled
 pub mod Chosen
+pub mod Taken

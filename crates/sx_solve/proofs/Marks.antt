@@ -1,12 +1,15 @@
 -- The xor of the numbers whose places are marked, and how often an unknown stands in the equations whose places are.
-use Rattle.std.proofs.Common.{◌≡◌, ◌≢◌, ℕ, zero, suc, ◌+◌, ◌*◌, ◌%◌, ◌^◌, ◌<◌, ◌≤◌, List, [], ◌∷◌, ◌++◌, length, get_or, set, refl, sym, ap, subst, ◌∙◌, arith, inl, inr, ◌⊎◌}
+use Rattle.std.proofs.Common.{◌≡◌, ◌≢◌, ℕ, zero, suc, ◌+◌, ◌*◌, ◌%◌, ◌^◌, ◌<◌, ◌≤◌, List, [], ◌∷◌, ◌++◌, length, get_or, set, take, refl, sym, ap, ◌∙◌, arith, inl, inr, ◌⊎◌}
 use Rattle.std.specs.Prelude.{bit_xor}
 use Rattle.std.specs.List.{AllByRecursion}
 use Rattle.std.specs.Int.Bits.{xor_assoc, xor_self, xor_zero_r}
+use Rattle.std.proofs.lemmas.List.{take_more, length-take}
 use Rattle.std.proofs.lemmas.Nat.{xor_comm, xor_lt}
 use Rattle.std.proofs.Math.Pow.{pow_pos}
 use Rattle.sx_spec.specs.declared.Equation.{Equation}
 use Rattle.sx_spec.specs.Systems.{unknowns, vertices, count_of}
+use Rattle.sx_spec.proofs.Counts.{front_cases}
+use Rattle.sx_solve.specs.Solving.{IsEquationWithin}
 use Rattle.sx_solve.specs.Rows.{xor_by, times_by}
 
 pub mark_cases : (b : ℕ) → b < 2 → (b ≡ 0) ⊎ (b ≡ 1)
@@ -89,6 +92,12 @@ xor_by_push f i (x ∷ xs) y =
     ap (bit_xor (f i * x)) (xor_by_push f (i + 1) xs y ∙ ap (λ k. bit_xor (xor_by f (i + 1) xs) (f k * y)) next)
     ∙ sym (xor_assoc (f i * x) (xor_by f (i + 1) xs) (f (i + suc (length xs)) * y))
 
+pub xor_by_more : (f : ℕ → ℕ) (xs : List ℕ) (i d : ℕ) → i < length xs → xor_by f 0 (take (i + 1) xs) ≡ bit_xor (xor_by f 0 (take i xs)) (f i * get_or xs i d)
+xor_by_more f xs i d within =
+    let size : 0 + length (take i xs) ≡ i = (let e = length-take i xs in omega arith) in
+    ap (xor_by f 0) (take_more xs i d within) ∙ xor_by_push f 0 (take i xs) (get_or xs i d)
+    ∙ ap (λ k. bit_xor (xor_by f 0 (take i xs)) (f k * get_or xs i d)) size
+
 -- a number that is changed
 pub xor_by_change : (f : ℕ → ℕ) → ((j : ℕ) → f j < 2) → (i : ℕ) (xs : List ℕ) (n d : ℕ) → n < length xs
     → xor_by f i (set xs n (bit_xor (get_or xs n 0) d)) ≡ bit_xor (xor_by f i xs) (f (i + n) * d)
@@ -161,3 +170,28 @@ times_by_one f i (suc n) (q ∷ qs) v d one others within =
     let next : (i + 1) + n ≡ i + suc n = omega arith in
     let rest = times_by_one f (i + 1) n qs v d (ap f next ∙ one) (λ j differ. others j (λ same. differ (same ∙ sym next))) (omega arith) in
     omega arith
+
+-- an unknown past the bound stands in no equation
+pub times_by_past : (f : ℕ → ℕ) (i : ℕ) (qs : List Equation) (bound v : ℕ) → AllByRecursion (IsEquationWithin bound) qs → bound ≤ v → times_by f i qs v ≡ 0
+times_by_past f i [] bound v all past = refl
+times_by_past f i (q ∷ qs) bound v all past =
+    let none : count_of v (vertices (unknowns q)) ≡ 0 = none_of q.a q.b q.c all.0.a all.0.b all.0.c in
+    let here : f i * count_of v (vertices (unknowns q)) ≡ 0 = ap (λ n. f i * n) none ∙ mul_zero (f i) in
+    let rest = times_by_past f (i + 1) qs bound v all.1 past in
+    omega arith
+  where
+    mul_zero : (n : ℕ) → n * 0 ≡ 0
+    mul_zero n = omega arith
+
+    none_of : (a b c : ℕ) → a < bound → b < bound → c < bound → count_of v (a ∷ b ∷ c ∷ []) ≡ 0
+    none_of a b c in_a in_b in_c =
+        elim (front_cases v a (b ∷ c ∷ [])) [
+          | inl here ↦ absurd (let e = here.0 in omega arith)
+          | inr later ↦ later.1 ∙ elim (front_cases v b (c ∷ [])) [
+            | inl here ↦ absurd (let e = here.0 in omega arith)
+            | inr rest ↦ rest.1 ∙ elim (front_cases v c []) [
+              | inl here ↦ absurd (let e = here.0 in omega arith)
+              | inr end ↦ end.1
+            ]
+          ]
+        ]

@@ -1,5 +1,5 @@
 -- A row that is the sum of two.
-use Rattle.std.proofs.Common.{◌≡◌, ◌≢◌, ℕ, ◌+◌, ◌*◌, ◌/◌, ◌%◌, ◌<◌, ◌≤◌, List, [], ◌∷◌, length, get_or, refl, sym, ap, subst, ◌∙◌, arith, All, inl, inr, cond, true, false, zero-add}
+use Rattle.std.proofs.Common.{◌≡◌, ◌≢◌, ℕ, ◌+◌, ◌%◌, ◌<◌, ◌≤◌, List, length, get_or, refl, sym, ap, subst, ◌∙◌, arith, inl, inr, cond, true, false, zero-add}
 use Rattle.std.specs.Prelude.{bit_xor, ◌==◌}
 use Rattle.std.specs.Int.Bits.{xor_assoc, xor_self, xor_zero_r}
 use Rattle.std.proofs.lemmas.Bool.{cases_eq}
@@ -7,10 +7,9 @@ use Rattle.std.proofs.lemmas.Bool.Decides.{Decides-eqb}
 use Rattle.std.proofs.lemmas.List.{get_or-map, length-map}
 use Rattle.sx_spec.specs.declared.Equation.{Equation}
 use Rattle.sx_spec.specs.Systems.{unknowns, vertices, count_of, cells_at}
-use Rattle.sx_spec.proofs.Counts.{front_cases}
 use Rattle.sx_solve.specs.declared.rows.Row.{Row}
 use Rattle.sx_solve.specs.Solving.{IsEquationWithin}
-use Rattle.sx_solve.specs.Rows.{bit, xor_by, times_by, values, IsRow, Meets}
+use Rattle.sx_solve.specs.Rows.{bit, xor_by, values, IsRow, Meets}
 use Rattle.sx_solve.proofs.Marks.{xor_by_sum, xor_by_none, xor_by_one, times_by_sum, times_by_one}
 use Rattle.sx_solve.proofs.WordBits.{bit_small}
 

@@ -1,12 +1,11 @@
 // The numbers of the unknowns, from the last row to the first.
 
-ghost use Rattle.std.specs.Prelude.{◌≡◌, ◌*◌, ◌/◌, ◌<◌, ◌^◌, ℕ, All, IfOk, length};
+ghost use Rattle.std.specs.Prelude.{◌≡◌, ◌*◌, ◌/◌, ◌<◌, ◌^◌, ℕ, All, IfOk, length, replicate};
 ghost use Rattle.sx_solve.specs.Rows.{AreSteps, Meets, bit, xor_by};
-
-use std::alloc::{AllocError, Global};
 
 use crate::bits::test_bit;
 use crate::rows::Row;
+use std::alloc::{AllocError, Global};
 
 /// So many numbers that meet every row.
 pub(crate) fn cells_of(alloc: Global, count: usize, rows: &[Row]) -> Result<Vec<u64>, AllocError>
@@ -17,9 +16,16 @@ pub(crate) fn cells_of(alloc: Global, count: usize, rows: &[Row]) -> Result<Vec<
     ensures met { IfOk result (λ v. All (Meets v.items) rows.now) }
     ensures narrow { IfOk result (λ v. (k : ℕ) → All (λ r. r.value < 2 ^ k) rows.now → All (λ x. x < 2 ^ k) v.items) }
 {
-    let mut cells = vec![in alloc; 0u64; count]?;
+    let mut cells = zeros(alloc, count)?;
     fill(&mut cells, rows);
     Ok(cells)
+}
+
+/// So many numbers of 0.
+fn zeros(alloc: Global, count: usize) -> Result<Vec<u64>, AllocError>
+    ensures { IfOk result (λ v. v.items ≡ replicate count 0) }
+{
+    Ok(vec![in alloc; 0; count]?)
 }
 
 /// Sets the number of each pivot so that its row is met.
@@ -28,9 +34,7 @@ fn fill(cells: &mut [u64], rows: &[Row])
     requires pivots { All (λ r. r.pivot < length cells.old) rows.now }
     requires words { All (λ r. length cells.old / 64 < length r.unknowns.items) rows.now }
     ensures met { All (Meets cells.new) rows.now }
-    ensures narrow {
-        (k : ℕ) → All (λ r. r.value < 2 ^ k) rows.now → All (λ x. x < 2 ^ k) cells.old → All (λ x. x < 2 ^ k) cells.new
-    }
+    ensures narrow { (k : ℕ) → All (λ r. r.value < 2 ^ k) rows.now → All (λ x. x < 2 ^ k) cells.old → All (λ x. x < 2 ^ k) cells.new }
 {
     for k in (0..rows.len()).rev() {
         let row = &rows[k];

@@ -8,11 +8,9 @@ mod bits;
 mod cells;
 mod rows;
 
-use std::alloc::{AllocError, Global};
-
 use cells::cells_of;
 use rows::{Eliminated, eliminate};
-
+use std::alloc::{AllocError, Global};
 pub use sx_spec::Equation;
 
 /// What solving comes to.
@@ -39,5 +37,59 @@ pub fn solve(alloc: Global, vars: u32, eqs: &[Equation]) -> Result<Solved, Alloc
     match eliminate(alloc, vars, eqs)? {
         Eliminated::Steps(rows) => Ok(Solved::Cells(cells_of(alloc, vars as usize, &rows)?)),
         Eliminated::Sum(numbers) => Ok(Solved::Sum(numbers)),
+    }
+}
+
+#[cfg(test)]
+mod tests {
+    use super::*;
+    use std::test::Fail;
+
+    #[test]
+    fn two_values_for_one_equation_are_a_sum(rt: HostRuntime) -> Result<(), Fail> {
+        let q = Equation {
+            a: 0,
+            b: 1,
+            c: 2,
+            value: 1,
+        };
+        let p = Equation {
+            a: 0,
+            b: 1,
+            c: 2,
+            value: 0,
+        };
+        match solve(rt.alloc(), 3, &[q, p])? {
+            Solved::Sum(numbers) => assert_eq!(rt; numbers.as_slice(), [0, 1].as_slice()),
+            Solved::Cells(_) => assert!(rt; false, "solved"),
+        }
+        Ok(())
+    }
+
+    #[test]
+    fn one_equation_twice_is_solved(rt: HostRuntime) -> Result<(), Fail> {
+        let q = Equation {
+            a: 0,
+            b: 1,
+            c: 2,
+            value: 1,
+        };
+        match solve(rt.alloc(), 3, &[q, q])? {
+            Solved::Cells(cells) => {
+                assert_eq!(rt; cells.len(), 3);
+                assert_eq!(rt; cells[0] ^ cells[1] ^ cells[2], 1);
+            }
+            Solved::Sum(_) => assert!(rt; false, "a sum"),
+        }
+        Ok(())
+    }
+
+    #[test]
+    fn no_equation_is_solved(rt: HostRuntime) -> Result<(), Fail> {
+        match solve(rt.alloc(), 3, &[])? {
+            Solved::Cells(cells) => assert_eq!(rt; cells.len(), 3),
+            Solved::Sum(_) => assert!(rt; false, "a sum"),
+        }
+        Ok(())
     }
 }

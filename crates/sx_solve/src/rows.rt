@@ -1,16 +1,15 @@
 // Rows are made of equations and reduced by the rows before them, until each has a pivot that no later row has.
 
-ghost use Rattle.std.specs.Prelude.{◌≡◌, ◌≢◌, ◌+◌, ◌*◌, ◌/◌, ◌%◌, ◌<◌, ◌≤◌, ◌^◌, ◌==◌, ℕ, All, IfOk, List, MatchOption, Some, bit_xor, filter, length, slice_get};
+ghost use Rattle.std.specs.Prelude.{◌≡◌, ◌≢◌, ◌+◌, ◌*◌, ◌/◌, ◌%◌, ◌<◌, ◌≤◌, ◌^◌, ◌==◌, ◌++◌, ◌∷◌, [], cond, ℕ, All, OnOk, IfOk, List, MatchOption, Some, bit_xor, filter, length, slice_get};
 ghost use Rattle.std.specs.List.{range_with_len};
 ghost use Rattle.sx_spec.specs.Systems.{cells_at, count_of, unknowns, vertices};
 ghost use Rattle.sx_spec.specs.declared.Equation.{Equation};
 ghost use Rattle.sx_solve.specs.Solving.{IsEquationWithin};
 ghost use Rattle.sx_solve.specs.Rows.{AreRows, AreSteps, HasWords, IsContradictory, IsEliminated, IsRow, Meets, bit, xor_by};
 
-use std::alloc::{AllocError, Global};
-
 use crate::Equation;
 use crate::bits::{add_bits, first_bit, no_bits, set_bit, test_bit};
+use std::alloc::{AllocError, Global};
 
 /// A sum of equations.
 #[derive(Debug, Drop)]
@@ -33,7 +32,11 @@ pub(crate) enum Eliminated {
 
 /// Rows that have each a pivot that no later one has, and from which every equation follows; or a sum of equations that has
 /// no solution.
-pub(crate) fn eliminate(alloc: Global, vars: u32, eqs: &[Equation]) -> Result<Eliminated, AllocError>
+pub(crate) fn eliminate(
+    alloc: Global,
+    vars: u32,
+    eqs: &[Equation],
+) -> Result<Eliminated, AllocError>
     requires within { All (IsEquationWithin vars) eqs.now }
     requires few { 3 * length eqs.now < 2 ^ 32 }
     ensures { IfOk result (λ e. IsEliminated vars eqs.now e) }
@@ -48,13 +51,17 @@ pub(crate) fn eliminate(alloc: Global, vars: u32, eqs: &[Equation]) -> Result<El
 }
 
 /// Adds the equation of this number to the rows, unless it follows from them. A row that no cells meet is handed back.
-fn take_in(alloc: Global, rows: &mut Vec<Row>, vars: u32, eqs: &[Equation], number: usize) -> Result<Option<Row>, AllocError>
+fn take_in(
+    alloc: Global,
+    rows: &mut Vec<Row>,
+    vars: u32,
+    eqs: &[Equation],
+    number: usize,
+) -> Result<Option<Row>, AllocError>
     requires within { All (IsEquationWithin vars) eqs.now }
     requires number { number < length eqs.now }
     requires rows { AreRows vars eqs.now number rows.old.items }
-    ensures {
-        IfOk result (λ r. MatchOption r (AreRows vars eqs.now (number + 1) rows.new.items) (IsContradictory eqs.now))
-    }
+    ensures { IfOk result (λ r. MatchOption r (AreRows vars eqs.now (number + 1) rows.new.items) (IsContradictory eqs.now)) }
 {
     let mut row = reduced(alloc, rows, vars, eqs, number)?;
     match first_bit(&row.unknowns) {
@@ -69,16 +76,20 @@ fn take_in(alloc: Global, rows: &mut Vec<Row>, vars: u32, eqs: &[Equation], numb
 }
 
 /// The row of the equation of this number, reduced by the rows.
-fn reduced(alloc: Global, rows: &[Row], vars: u32, eqs: &[Equation], number: usize) -> Result<Row, AllocError>
+fn reduced(
+    alloc: Global,
+    rows: &[Row],
+    vars: u32,
+    eqs: &[Equation],
+    number: usize,
+) -> Result<Row, AllocError>
     requires within { All (IsEquationWithin vars) eqs.now }
     requires number { number < length eqs.now }
     requires rows { AreRows vars eqs.now number rows.now }
     ensures words { IfOk result (λ r. HasWords (vars / 64 + 1) (length eqs.now / 64 + 1) r) }
     ensures sum { IfOk result (λ r. IsRow eqs.now r) }
-    ensures meets {
-        IfOk result (λ r. (cells : List ℕ) → vars ≤ length cells → All (Meets cells) rows.now → Meets cells r
-            → (q : Equation) → slice_get eqs.now number ≡ Some q → cells_at cells (unknowns q) ≡ q.value)
-    }
+    ensures meets { IfOk result (λ r. (cells : List ℕ) → vars ≤ length cells → All (Meets cells) rows.now → Meets cells r
+        → (q : Equation) → slice_get eqs.now number ≡ Some q → cells_at cells (unknowns q) ≡ q.value) }
     ensures cleared { IfOk result (λ r. All (λ s. bit r.unknowns.items s.pivot ≡ 0) rows.now) }
 {
     let q = eqs[number];
@@ -99,9 +110,7 @@ fn unknowns_of(alloc: Global, vars: u32, q: Equation) -> Result<Vec<u64>, AllocE
     requires { IsEquationWithin vars q }
     ensures words { IfOk result (λ v. length v.items ≡ vars / 64 + 1) }
     ensures bits { IfOk result (λ v. (i : ℕ) → bit v.items i ≡ count_of i (vertices (unknowns q)) % 2) }
-    ensures xor {
-        IfOk result (λ v. (cells : List ℕ) → vars ≤ length cells → xor_by (bit v.items) 0 cells ≡ cells_at cells (unknowns q))
-    }
+    ensures xor { IfOk result (λ v. (cells : List ℕ) → vars ≤ length cells → xor_by (bit v.items) 0 cells ≡ cells_at cells (unknowns q)) }
 {
     let mut bits = no_bits(alloc, vars as usize)?;
     set_bit(&mut bits, q.a as usize);
@@ -129,11 +138,19 @@ fn numbers_of(alloc: Global, set: &[u64], count: u32) -> Result<Vec<u32>, AllocE
 {
     let mut numbers = Vec::new(alloc);
     for number in 0..count {
-        if test_bit(set, number as usize) {
-            numbers.push(number)?;
-        }
+        push_where(&mut numbers, number, test_bit(set, number as usize))?;
     }
     Ok(numbers)
+}
+
+/// Adds the number, if it is wanted.
+fn push_where(numbers: &mut Vec<u32>, number: u32, wanted: bool) -> Result<(), AllocError>
+    ensures { OnOk result (numbers.new.items ≡ numbers.old.items ++ cond wanted (number ∷ []) []) }
+{
+    if wanted {
+        numbers.push(number)?;
+    }
+    Ok(())
 }
 
 impl Row {

@@ -1,4 +1,4 @@
-use Rattle.std.proofs.Common.{◌≡◌, ◌<◌, ℕ, length, get_or, arith}
+use Rattle.std.proofs.Common.{arith}
 use Rattle.sx_solve.proofs.WordBits.{added_bits}
 use Rattle.sx_solve.proofs.bits.add_bits.Goals as goal
 

@@ -1,4 +1,4 @@
-use Rattle.std.proofs.Common.{◌≡◌, ◌≢◌, ◌<◌, ◌/◌, ℕ, length, get_or, arith}
+use Rattle.std.proofs.Common.{◌/◌}
 use Rattle.std.proofs.lemmas.List.{get_or_read}
 use Rattle.sx_solve.proofs.WordBits.{set_same, set_others}
 use Rattle.sx_solve.proofs.bits.set_bit.Goals as goal

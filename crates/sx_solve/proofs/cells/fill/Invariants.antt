@@ -1,4 +1,4 @@
-use Rattle.std.proofs.Common.{◌≡◌, ◌<◌, ◌≤◌, ◌^◌, ℕ, All, length, get_or}
+use Rattle.std.proofs.Common.{◌<◌, ◌≤◌, ◌^◌, ℕ, All, length, get_or}
 use Rattle.sx_solve.specs.declared.rows.Row.{Row}
 use Rattle.sx_solve.specs.Rows.{Meets}
 use Rattle.sx_solve.proofs.cells.fill.Given as goal
