@@ -1,0 +1,6 @@
+//! Rank and select over the bits of a bank of words.
+#![tactic(auto)]
+
+mod counts;
+pub mod ranksel;
+mod search;

@@ -1,0 +1,134 @@
+//! The ones below a bit, and the place of a one.
+ghost use Rattle.std.specs.Prelude.{◌≡◌, ◌+◌, ◌*◌, ◌/◌, ◌<◌, ◌≤◌, ◌^◌, All, IfOk, length, slice_index};
+ghost use Rattle.sx_spec.specs.Fields.{ones_of, words_for};
+ghost use Rattle.sx_ranksel.specs.Directory.{directory_of, number_at, rank_of};
+
+use crate::counts::{ones_below, ones_between, select_between};
+use crate::search::block_at;
+use std::alloc::{AllocError, Global};
+use std::marker::Brand;
+use std::sync::ledger::{Blank, Ledger};
+use sx_fields::bank::{WordBank, WordsBuf};
+use sx_steps::Steps;
+
+/// The bits of a bank from a word on, with a directory of the ones before each block of eight words.
+#[derive(Drop)]
+pub struct RankSel<B: WordBank + Copy> {
+    bank: B,
+    first: usize,
+    bits: u64,
+    ones: u64,
+    directory: WordsBuf,
+    ghost few: { bits ≤ 2 ^ 34 },
+    ghost within: { first + words_for bits ≤ length (B.words_of bank) },
+    ghost long: { length (B.words_of bank) < 2 ^ 64 },
+    ghost small: { All (λ w. w < 2 ^ 64) (B.words_of bank) },
+    ghost counted: { ones ≡ rank_of bits (number_at first (B.words_of bank)) },
+    ghost listed: { directory.words.items ≡ directory_of bits (number_at first (B.words_of bank)) },
+}
+
+/// The ones before each block of eight words, and before the block that begins where the bits end.
+fn block_counts<B: WordBank, L: Ledger>(
+    alloc: Global,
+    bank: &B,
+    first: usize,
+    bits: u64,
+    steps: &mut Steps<L>,
+) -> Result<Vec<u64>, AllocError>
+    requires few { bits ≤ 2 ^ 34 }
+    requires within { first + words_for bits ≤ length (B.words_of bank.now) }
+    requires small { All (λ w. w < 2 ^ 64) (B.words_of bank.now) }
+    requires long { length (B.words_of bank.now) < 2 ^ 64 }
+    ensures { IfOk result (λ v. v.items ≡ directory_of bits (number_at first (B.words_of bank.now))) }
+{
+    let blocks = (bits / 512) as usize;
+    let mut counts = Vec::with_capacity(alloc, blocks + 1)?;
+    let mut ones = 0;
+    counts.push(ones)?;
+    for block in 0..blocks {
+        ones += ones_between(bank, first, 8 * block, 8 * block + 8, steps);
+        counts.push(ones)?;
+    }
+    Ok(counts)
+}
+
+/// What `RankSel::build` makes, with a count of its own.
+fn build_counted<B: WordBank + Copy, L: Ledger>(
+    alloc: Global,
+    bank: B,
+    first: usize,
+    bits: u64,
+    blank: Blank,
+) -> Result<RankSel<B>, AllocError>
+    requires name { blank.name ≡ L.name }
+    requires parts { blank.parts ≡ L.parts }
+    requires some { 0 < blank.parts }
+    requires few { bits ≤ 2 ^ 34 }
+    requires within { first + words_for bits ≤ length (B.words_of bank) }
+    ensures bank { IfOk result (λ r. r.bank ≡ bank) }
+    ensures first { IfOk result (λ r. r.first ≡ first) }
+    ensures bits { IfOk result (λ r. r.bits ≡ bits) }
+{
+    let mut steps = Steps::<L>::new(blank);
+    let _words = bank.words();
+    let counts = block_counts(alloc, &bank, first, bits, &mut steps)?;
+    let before = counts[(bits / 512) as usize];
+    let ones = ones_below(&bank, first, before, bits, &mut steps);
+    Ok(RankSel {
+        bank,
+        first,
+        bits,
+        ones,
+        directory: WordsBuf::new(counts),
+    })
+}
+
+impl<B: WordBank + Copy> RankSel<B> {
+    /// The `bits` bits of the bank from word `first` on. No other call takes memory.
+    ///
+    /// # Errors
+    /// Only for want of memory.
+    pub fn build(
+        alloc: Global,
+        bank: B,
+        first: usize,
+        bits: u64,
+    ) -> Result<RankSel<B>, AllocError>
+        requires few { bits ≤ 2 ^ 34 }
+        requires within { first + words_for bits ≤ length (B.words_of bank) }
+        ensures bank { IfOk result (λ r. r.bank ≡ bank) }
+        ensures first { IfOk result (λ r. r.first ≡ first) }
+        ensures bits { IfOk result (λ r. r.bits ≡ bits) }
+    {
+        build_counted::<B, Brand>(alloc, bank, first, bits, Blank::new(1))
+    }
+
+    /// How many ones there are.
+    pub fn ones(&self) -> u64
+        ensures { result ≡ rank_of self.now.bits (number_at self.now.first (B.words_of self.now.bank)) }
+    {
+        self.ones
+    }
+
+    /// The ones below bit `pos`, in at most 10 ticks.
+    pub fn rank<L: Ledger>(&self, pos: u64, steps: &mut Steps<L>) -> u64
+        requires { pos ≤ self.now.bits }
+        ensures rank { result ≡ rank_of pos (number_at self.now.first (B.words_of self.now.bank)) }
+        ensures cost { steps.new ≤ steps.old + 10 }
+    {
+        let before = self.directory.word((pos / 512) as usize, steps);
+        ones_below(&self.bank, self.first, before, pos, steps)
+    }
+
+    /// The place of one number `k`, counted from 0, in at most 36 ticks.
+    pub fn select<L: Ledger>(&self, k: u64, steps: &mut Steps<L>) -> u64
+        requires { k < rank_of self.now.bits (number_at self.now.first (B.words_of self.now.bank)) }
+        ensures place { result ≡ slice_index (ones_of self.now.bits (number_at self.now.first (B.words_of self.now.bank))) k }
+        ensures cost { steps.new ≤ steps.old + 36 }
+    {
+        let block = block_at(&self.directory, k, steps);
+        let from = 8 * block.number;
+        let to = (from + 8).min(self.bits.div_ceil(64) as usize);
+        select_between(&self.bank, self.first, from, to, block.ones, k, steps)
+    }
+}
