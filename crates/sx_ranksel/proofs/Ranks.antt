@@ -1,5 +1,5 @@
 -- How many ones a number has below a bit, and where one number k stands.
-use Rattle.std.proofs.Common.{◌≡◌, ℕ, min, zero, suc, ◌+◌, ◌-◌, ◌*◌, ◌/◌, ◌%◌, ◌^◌, ◌<◌, ◌≤◌, true, false, cond, List, [], ◌∷◌, ◌++◌, All, length, get_or, drop, refl, sym, ap, subst, ◌∙◌, arith, lit<, inl, inr, zero-add, add-zero}
+use Rattle.std.proofs.Common.{◌≡◌, ℕ, min, zero, suc, ◌+◌, ◌-◌, ◌*◌, ◌/◌, ◌%◌, ◌^◌, ◌<◌, ◌≤◌, cond, List, [], ◌∷◌, ◌++◌, All, length, get_or, drop, refl, sym, ap, ◌∙◌, arith, lit<, inl, inr, zero-add, add-zero}
 use Rattle.std.specs.Prelude.{◌==◌, filter}
 use Rattle.std.specs.Int.{bit_at, div_ceil}
 use Rattle.std.specs.Int.Count.{ones}
@@ -8,10 +8,10 @@ use Rattle.std.proofs.lemmas.Bool.{cases_eq, cases_lt, eq-eqb, ne_eqb}
 use Rattle.std.proofs.lemmas.List.{length-append, get_or_at, get_or-drop}
 use Rattle.std.proofs.lemmas.List.Elements.{filter-append, recursion_from_All, All-drop, All-get_or}
 use Rattle.std.proofs.lemmas.Nat.{ones_cat, ones-le, mod_below, pow_pos, mod-pow-add}
-use Rattle.std.proofs.Math.Nat.{pow-succ', pow-zero, mod-one, div-one, mod-eq_of_lt, mod-lt}
+use Rattle.std.proofs.Math.Nat.{pow-succ', pow-zero, mod-one, div-one, mod-eq_of_lt}
 use Rattle.std.proofs.Math.Arith.{mod-mul}
 use Rattle.std.proofs.lemmas.List.FromFn.{length-map-range_with_len, get_or-map-range_with_len}
-use Rattle.sx_spec.specs.Fields.{ones_of, words_number}
+use Rattle.sx_spec.specs.Fields.{ones_of}
 use Rattle.sx_fields.proofs.WordNumbers.{AreWords}
 use Rattle.sx_fields.proofs.WordFields.{number_inside}
 use Rattle.sx_ranksel.specs.Directory.{rank_of, number_at, directory_of}

@@ -4,3 +4,5 @@
 mod counts;
 pub mod ranksel;
 mod search;
+#[cfg(test)]
+mod tests;

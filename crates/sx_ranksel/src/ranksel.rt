@@ -88,12 +88,7 @@ impl<B: WordBank + Copy> RankSel<B> {
     ///
     /// # Errors
     /// Only for want of memory.
-    pub fn build(
-        alloc: Global,
-        bank: B,
-        first: usize,
-        bits: u64,
-    ) -> Result<RankSel<B>, AllocError>
+    pub fn build(alloc: Global, bank: B, first: usize, bits: u64) -> Result<RankSel<B>, AllocError>
         requires few { bits ≤ 2 ^ 34 }
         requires within { first + words_for bits ≤ length (B.words_of bank) }
         ensures bank { IfOk result (λ r. r.bank ≡ bank) }

@@ -1,4 +1,4 @@
-use Rattle.std.proofs.Common.{◌≡◌, ◌<◌, ◌≤◌, ◌^◌, ◌+◌, get_or, ap, refl, arith}
+use Rattle.std.proofs.Common.{◌≡◌, ◌+◌, get_or, refl, arith}
 use Rattle.std.specs.Int.Count.{ones}
 use Rattle.std.proofs.lemmas.Nat.{ones-le}
 use Rattle.sx_ranksel.proofs.Ranks.{rank_word}

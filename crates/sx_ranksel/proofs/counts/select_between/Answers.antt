@@ -1,7 +1,7 @@
-use Rattle.std.proofs.Common.{◌≡◌, ◌<◌, ◌≤◌, ◌^◌, ◌+◌, ◌*◌, ◌%◌, ◌∙◌, get_or, ap, refl, sym, arith}
+use Rattle.std.proofs.Common.{◌≡◌, ◌^◌, ◌+◌, ◌%◌, get_or, refl, arith}
 use Rattle.std.specs.Int.{bit_at}
 use Rattle.std.specs.Int.Count.{ones}
-use Rattle.sx_ranksel.specs.Directory.{number_at, rank_of}
+use Rattle.sx_ranksel.specs.Directory.{number_at}
 use Rattle.sx_ranksel.proofs.Ranks.{rank_word, word_one}
 use Rattle.sx_ranksel.proofs.counts.select_between.Goals as goal
 

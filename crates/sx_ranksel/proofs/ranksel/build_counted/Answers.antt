@@ -1,4 +1,4 @@
-use Rattle.std.proofs.Common.{◌≡◌, ◌/◌, ◌*◌, ◌+◌, ◌∙◌, get_or, length, ap, arith}
+use Rattle.std.proofs.Common.{◌≡◌, ◌/◌, ◌+◌, ◌∙◌, get_or, length, ap, arith}
 use Rattle.std.proofs.lemmas.List.{get_or_read}
 use Rattle.sx_ranksel.specs.Directory.{number_at}
 use Rattle.sx_ranksel.proofs.Ranks.{length-directory, directory_at}

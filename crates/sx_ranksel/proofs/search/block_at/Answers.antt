@@ -1,4 +1,4 @@
-use Rattle.std.proofs.Common.{◌≡◌, ◌<◌, ◌≤◌, ◌^◌, ◌+◌, ◌*◌, ◌/◌, ◌%◌, ◌-◌, ◌∙◌, ap, subst, sym, arith}
+use Rattle.std.proofs.Common.{◌≡◌, ◌<◌, ◌+◌, ◌/◌, ◌-◌, subst, arith}
 use Rattle.sx_ranksel.proofs.WordSelect.{halve_cost, cost_left}
 use Rattle.sx_ranksel.proofs.search.block_at.Goals as goal
 

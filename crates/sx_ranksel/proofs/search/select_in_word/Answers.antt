@@ -1,7 +1,7 @@
-use Rattle.std.proofs.Common.{◌≡◌, ◌<◌, ◌≤◌, ◌^◌, ◌+◌, ◌*◌, ◌/◌, ◌%◌, ◌-◌, ◌∙◌, ap, subst, sym, arith}
+use Rattle.std.proofs.Common.{◌<◌, ◌≤◌, ◌^◌, ◌/◌, ◌%◌, subst, arith}
 use Rattle.std.specs.Int.Count.{ones}
 use Rattle.sx_fields.proofs.WordFields.{masked}
-use Rattle.sx_ranksel.proofs.WordSelect.{Holds, low_half, high_half}
+use Rattle.sx_ranksel.proofs.WordSelect.{low_half, high_half}
 use Rattle.sx_ranksel.proofs.search.select_in_word.Goals as goal
 
 pub loop-size-preserved-then-left-count : goal.loop-size-preserved-then-left-count

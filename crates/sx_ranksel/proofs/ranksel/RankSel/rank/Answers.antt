@@ -1,4 +1,4 @@
-use Rattle.std.proofs.Common.{◌≡◌, ◌/◌, ◌*◌, ◌∙◌, get_or, length, ap, arith}
+use Rattle.std.proofs.Common.{◌/◌, ◌∙◌, get_or, length, ap, arith}
 use Rattle.sx_ranksel.specs.Directory.{number_at}
 use Rattle.sx_ranksel.proofs.Ranks.{length-directory, directory_at}
 use Rattle.sx_ranksel.proofs.ranksel.RankSel.rank.Goals as goal

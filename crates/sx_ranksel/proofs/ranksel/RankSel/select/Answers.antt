@@ -1,4 +1,4 @@
-use Rattle.std.proofs.Common.{◌≡◌, ◌<◌, ◌≤◌, ◌/◌, ◌*◌, ◌+◌, ◌∙◌, List, ℕ, min, get_or, length, ap, subst, sym, arith}
+use Rattle.std.proofs.Common.{◌≡◌, ◌<◌, ◌*◌, ◌+◌, ◌∙◌, List, ℕ, min, get_or, length, ap, subst, sym, arith}
 use Rattle.sx_ranksel.specs.Directory.{number_at, rank_of, directory_of}
 use Rattle.sx_ranksel.proofs.Ranks.{length-directory, directory_at, block_above, select_at}
 use Rattle.sx_ranksel.proofs.ranksel.RankSel.select.Goals as goal
