@@ -61,6 +61,13 @@ impl PackedBuf {
     {
         self.words.as_slice()
     }
+
+    /// The words themselves.
+    pub fn into_words(self) -> Vec<u64>
+        ensures { result.items ≡ packed self.width self.items }
+    {
+        self.words
+    }
 }
 
 impl Fields for PackedBuf {
