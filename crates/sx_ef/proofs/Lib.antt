@@ -1,0 +1,5 @@
+pub mod Numbers
+pub mod Widths
+pub mod Encoding
+pub mod Scan
+pub mod Views

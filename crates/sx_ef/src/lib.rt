@@ -1,0 +1,6 @@
+//! Elias-Fano lists: nondecreasing numbers in about two bits more than their low bits each.
+#![tactic(auto)]
+
+pub mod check;
+pub mod encode;
+pub mod view;

@@ -1,0 +1,114 @@
+//! An Elias-Fano list in the words of a bank.
+ghost use Rattle.std.specs.Prelude.{◌≡◌, ◌+◌, ◌<◌, ◌≤◌, ◌^◌, All, IfOk, drop, length, slice_index, true};
+ghost use Rattle.sx_spec.specs.Fields.{fields, ones_of};
+ghost use Rattle.sx_ranksel.specs.Directory.{number_at, rank_of};
+ghost use Rattle.sx_ef.specs.Parts.{is_sums_list, low_size, numbers_in, sums_of, upper_size};
+
+use crate::encode::low_bits;
+use std::alloc::{AllocError, Global};
+use std::sync::ledger::Ledger;
+use sx_fields::bank::WordBank;
+use sx_fields::fields::Fields;
+use sx_fields::packed::Packed;
+use sx_ranksel::ranksel::RankSel;
+use sx_steps::Steps;
+
+/// Numbers that never fall, of which any is read in at most 80 ticks.
+#[derive(Drop)]
+pub struct EliasFano<B: WordBank + Copy> {
+    upper: RankSel<B>,
+    low: Packed<B>,
+    count: usize,
+    width: u32,
+    ghost narrow: { width ≤ 63 },
+    ghost few: { count < 2 ^ 32 },
+    ghost ones: { rank_of upper.bits (number_at upper.first (B.words_of upper.bank)) ≡ count },
+    ghost lows: { low.len ≡ count },
+    ghost low_width: { low.width ≡ width },
+    ghost fit: { All (λ x. x < 2 ^ 64)
+        (sums_of width
+        (ones_of upper.bits (number_at upper.first (B.words_of upper.bank)))
+        (fields low.width low.len (drop low.first (B.words_of low.bank)))) },
+}
+
+impl<B: WordBank + Copy> EliasFano<B> {
+    /// The list of `count` numbers below `below` whose low and upper words stand from word `first` on. No other call takes
+    /// memory.
+    ///
+    /// # Errors
+    /// Only for want of memory.
+    pub fn over(
+        alloc: Global,
+        bank: B,
+        first: usize,
+        count: u64,
+        below: u64,
+    ) -> Result<EliasFano<B>, AllocError>
+        requires some { 0 < count }
+        requires few { count < 2 ^ 32 }
+        requires above { 0 < below }
+        requires within { first + low_size count below + upper_size count below ≤ length (B.words_of bank) }
+        requires valid { is_sums_list count below (drop first (B.words_of bank)) ≡ true }
+        ensures items { IfOk result (λ e. ⟦<EliasFano<B> as Fields>⟧.items e ≡ numbers_in count below (drop first (B.words_of bank))) }
+        ensures len { IfOk result (λ e. length (⟦<EliasFano<B> as Fields>⟧.items e) ≡ count) }
+    {
+        let _words = bank.words();
+        let width = low_bits(count, below);
+        let low = Packed::new(bank, first, count as usize, width);
+        let start = first + (count * u64::from(width)).div_ceil(64) as usize;
+        let upper = RankSel::build(alloc, bank, start, count + ((below - 1) >> width))?;
+        Ok(EliasFano {
+            upper,
+            low,
+            count: count as usize,
+            width,
+        })
+    }
+
+    /// Number `i`, in at most 38 ticks.
+    #[inline]
+    fn number<L: Ledger>(&self, i: usize, steps: &mut Steps<L>) -> u64
+        requires { i < length (⟦<EliasFano<B> as Fields>⟧.items self.now) }
+        ensures value { result ≡ slice_index (⟦<EliasFano<B> as Fields>⟧.items self.now) i }
+        ensures cost { steps.new ≤ steps.old + 38 }
+    {
+        let high = self.upper.select(i as u64, steps) - i as u64;
+        (high << self.width) + self.low.get(i, steps)
+    }
+
+    /// Numbers `i` and `i + 1`, in at most 76 ticks.
+    pub fn pair<L: Ledger>(&self, i: usize, steps: &mut Steps<L>) -> (u64, u64)
+        requires { i + 1 < length (⟦<EliasFano<B> as Fields>⟧.items self.now) }
+        ensures first { result.0 ≡ slice_index (⟦<EliasFano<B> as Fields>⟧.items self.now) i }
+        ensures second { result.1 ≡ slice_index (⟦<EliasFano<B> as Fields>⟧.items self.now) (i + 1) }
+        ensures cost { steps.new ≤ steps.old + 76 }
+    {
+        (self.number(i, steps), self.number(i + 1, steps))
+    }
+}
+
+impl<B: WordBank + Copy> Fields for EliasFano<B> {
+    ghost items = { λ e. sums_of e.width
+        (ones_of e.upper.bits (number_at e.upper.first (B.words_of e.upper.bank)))
+        (fields e.low.width e.low.len (drop e.low.first (B.words_of e.low.bank))) };
+
+    ghost bits = { λ _. 64 };
+
+    ghost ticks = { λ _. 80 };
+
+    fn len(&self) -> usize {
+        self.count
+    }
+
+    fn width(&self) -> u32 {
+        64
+    }
+
+    fn cost(&self) -> u64 {
+        80
+    }
+
+    fn get<L: Ledger>(&self, i: usize, steps: &mut Steps<L>) -> u64 {
+        self.number(i, steps)
+    }
+}
