@@ -3,3 +3,4 @@ pub mod Widths
 pub mod Encoding
 pub mod Scan
 pub mod Views
+pub mod Sections

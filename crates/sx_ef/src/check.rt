@@ -1,7 +1,9 @@
 //! Which words are an Elias-Fano list.
-ghost use Rattle.std.specs.Prelude.{◌≡◌, ◌+◌, ◌*◌, ◌<◌, ◌≤◌, ◌^◌, length};
+ghost use Rattle.std.specs.Prelude.{◌≡◌, ◌+◌, ◌*◌, ◌<◌, ◌≤◌, ◌^◌, ◌==◌, ◌&&◌, length, slice_index};
+ghost use Rattle.std.specs.Int.{bit_at};
 ghost use Rattle.sx_spec.specs.Fields.{ones_of, words_number};
 ghost use Rattle.sx_ef.specs.Parts.{is_sums_list, is_sums_of, low_size, upper_size};
+ghost use Rattle.sx_ef.specs.Sections.{is_sums_from_zero};
 
 use crate::encode::low_bits;
 use std::marker::Brand;
@@ -60,6 +62,40 @@ fn are_sums<F: Fields>(upper: &[u64], bits: u64, low: &F, below: u64) -> bool
     ensures { result ≡ is_sums_of (length (F.items low.now)) below (F.bits low.now) (ones_of bits (words_number upper.now)) (F.items low.now) }
 {
     are_sums_counted::<F, Brand>(upper, bits, low, below, Blank::new(1))
+}
+
+/// What `starts_at_zero` tells, with a count.
+fn starts_counted<F: Fields, L: Ledger>(upper: &[u64], low: &F, blank: Blank) -> bool
+    requires name { blank.name ≡ L.name }
+    requires parts { blank.parts ≡ L.parts }
+    requires some { 0 < blank.parts }
+    requires upper { 0 < length upper.now }
+    requires low { 0 < length (F.items low.now) }
+    ensures { result ≡ (bit_at (words_number upper.now) 0 == 1 && slice_index (F.items low.now) 0 == 0) }
+{
+    let mut steps = Steps::<L>::new(blank);
+    upper[0] & 1 == 1 && low.get(0, &mut steps) == 0
+}
+
+/// Whether the first bit of the upper words is one and the first low bits are zero.
+fn starts_at_zero<F: Fields>(upper: &[u64], low: &F) -> bool
+    requires upper { 0 < length upper.now }
+    requires low { 0 < length (F.items low.now) }
+    ensures { result ≡ (bit_at (words_number upper.now) 0 == 1 && slice_index (F.items low.now) 0 == 0) }
+{
+    starts_counted::<F, Brand>(upper, low, Blank::new(1))
+}
+
+/// Whether they are such numbers and begin with 0.
+pub(crate) fn are_sums_from_zero<F: Fields>(upper: &[u64], bits: u64, low: &F, below: u64) -> bool
+    requires few { bits < 2 ^ 34 }
+    requires within { bits ≤ 64 * length upper.now }
+    requires narrow { F.bits low.now ≤ 63 }
+    requires upper { 0 < length upper.now }
+    requires low { 0 < length (F.items low.now) }
+    ensures { result ≡ is_sums_from_zero (length (F.items low.now)) below (F.bits low.now) (ones_of bits (words_number upper.now)) (F.items low.now) }
+{
+    are_sums(upper, bits, low, below) && starts_at_zero(upper, low)
 }
 
 /// Whether the words are the low and the upper words of a list of `count` numbers that never fall, of which the last is

@@ -3,4 +3,7 @@
 
 pub mod check;
 pub mod encode;
+pub mod section;
+#[cfg(test)]
+mod tests;
 pub mod view;
