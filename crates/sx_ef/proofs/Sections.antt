@@ -1,5 +1,5 @@
 -- The checks of a sums section, by those of its two parts.
-use Rattle.std.proofs.Common.{◌≡◌, ◌≢◌, ℕ, zero, suc, ◌+◌, ◌-◌, ◌*◌, ◌/◌, ◌%◌, ◌^◌, ◌<◌, ◌≤◌, Bool, true, false, cond, List, [], ◌∷◌, ◌++◌, length, take, drop, get_or, Option, None, refl, sym, ap, subst, ◌∙◌, arith, inl, inr}
+use Rattle.std.proofs.Common.{◌≡◌, ℕ, zero, suc, ◌+◌, ◌-◌, ◌*◌, ◌^◌, ◌<◌, ◌≤◌, Bool, true, false, cond, List, [], ◌∷◌, length, take, drop, get_or, Option, None, refl, sym, ap, subst, ◌∙◌, arith, inl, inr}
 use Rattle.std.specs.Prelude.{◌==◌, ◌&&◌, filter, slice_index}
 use Rattle.std.specs.Int.{bit_at}
 use Rattle.std.specs.List.{range_with_len}
@@ -8,9 +8,8 @@ use Rattle.std.proofs.lemmas.List.{length-drop, drop-drop, take-take, drop-take}
 use Rattle.std.proofs.lemmas.Nat.{pow_pos}
 use Rattle.std.proofs.Math.Nat.{le-mul_of_pos_right}
 use Rattle.sx_spec_strings.specs.First.{first_failing}
-use Rattle.sx_spec.specs.Fields.{words_for, sums_items, is_zero_after, words_number, fields, ones_of, below_of, low_width, upper_bits}
+use Rattle.sx_spec.specs.Fields.{sums_items, is_zero_after, words_number, fields, ones_of, below_of, low_width, upper_bits}
 use Rattle.sx_spec.specs.Layout.{sums_upper, sums_low, sums_checks, sums_numbers}
-use Rattle.sx_ranksel.specs.Directory.{rank_of}
 use Rattle.sx_ef.specs.Parts.{sums_of, low_size, upper_size, low_part, upper_part, numbers_in, never_falls, is_sums_of, is_sums_list}
 use Rattle.sx_ef.specs.Sections.{part_checks}
 use Rattle.sx_ef.proofs.Numbers.{sums_at}

@@ -1,5 +1,5 @@
 -- The sums section at a place in words.
-use Rattle.std.specs.Prelude.{ℕ, ◌+◌, ◌*◌, Bool, ◌&&◌, List, [], ◌∷◌, length, drop, Option, Some, None, Result, Ok, Err, slice_index, ◌==◌}
+use Rattle.std.specs.Prelude.{ℕ, ◌+◌, ◌*◌, Bool, ◌&&◌, List, [], ◌∷◌, length, drop, Some, None, Result, Ok, Err, slice_index, ◌==◌}
 use Rattle.sx_ef.specs.declared.section.Sums.{Sums}
 use Rattle.sx_spec_strings.specs.First.{first_failing}
 use Rattle.sx_spec.specs.Fields.{fields, is_zero_after, below_of, low_width, upper_bits, ones_of, words_number}

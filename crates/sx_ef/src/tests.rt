@@ -29,7 +29,7 @@ fn read<B: WordBank + Copy, L: Ledger>(
     } else {
         None
     };
-    let pair = if i < len - 1 {
+    let pair = if i < len.saturating_sub(1) {
         Some(list.pair(i, &mut steps))
     } else {
         None
@@ -53,14 +53,23 @@ fn encoded_lists(rt: HostRuntime) -> Result<(), Fail> {
     Ok(())
 }
 
+/// Whether the words are a list of seven numbers of which the last is 24.
+fn is_list(low: u64, upper: u64) -> bool {
+    ef_valid(&[low, upper], 7, 25)
+}
+
 #[test]
 fn lists_in_words(rt: HostRuntime) -> Result<(), Fail> {
-    let words = [62, 264_790];
-    assert!(rt; ef_valid(&words, 7, 25));
-    assert!(rt; !ef_valid(&[62, 264_788], 7, 25));
-    assert!(rt; ef_valid(&[63, 264_790], 7, 25));
-    assert!(rt; !ef_valid(&[61, 264_790], 7, 25));
-    assert!(rt; !ef_valid(&[62 + 128, 264_790], 7, 25));
+    for (low, upper, valid) in [
+        (62, 264_790, true),
+        (62, 264_788, false),
+        (63, 264_790, true),
+        (61, 264_790, false),
+        (62 + 128, 264_790, false),
+        (62, 264_790 + (1 << 19), false),
+    ] {
+        assert_eq!(rt; is_list(low, upper), valid);
+    }
     Ok(())
 }
 

@@ -1,4 +1,4 @@
-use Rattle.std.proofs.Common.{◌≡◌, ◌∙◌, ◌≤◌, length, get_or, ap, sym, true}
+use Rattle.std.proofs.Common.{◌∙◌, length, get_or, ap, sym}
 use Rattle.std.specs.Prelude.{◌==◌, ◌&&◌}
 use Rattle.std.specs.Int.{bit_at}
 use Rattle.sx_spec.specs.Fields.{words_number}

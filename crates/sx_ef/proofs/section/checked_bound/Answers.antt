@@ -1,4 +1,4 @@
-use Rattle.std.proofs.Common.{◌≡◌, ◌<◌, ◌≤◌, Option, Some, None, get_or, refl, sym, arith}
+use Rattle.std.proofs.Common.{◌<◌, Some, None, get_or, refl, arith}
 use Rattle.sx_ef.proofs.Sections.{checks_at, valid_at}
 use Rattle.sx_ef.proofs.section.checked_bound.Goals as goal
 

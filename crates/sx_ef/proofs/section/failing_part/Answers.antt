@@ -1,4 +1,4 @@
-use Rattle.std.proofs.Common.{◌≡◌, ◌<◌, ◌≤◌, ◌^◌, ◌-◌, ◌+◌, ◌*◌, ◌/◌, sym, subst, arith}
+use Rattle.std.proofs.Common.{◌<◌, ◌^◌, ◌-◌, ◌+◌, ◌*◌, ◌/◌, sym, subst, arith}
 use Rattle.sx_ef.proofs.Widths.{upper_few}
 use Rattle.sx_ef.proofs.section.failing_part.Goals as goal
 

@@ -1,4 +1,4 @@
-use Rattle.std.proofs.Common.{◌≡◌, ◌∙◌, ◌+◌, drop, ap, sym, true}
+use Rattle.std.proofs.Common.{◌∙◌, drop, ap, sym}
 use Rattle.std.proofs.lemmas.List.{take_rest, drop-drop}
 use Rattle.sx_ef.specs.Parts.{is_sums_list}
 use Rattle.sx_ef.proofs.section.sums_check.Goals as goal
