@@ -4,3 +4,5 @@ pub mod Encoding
 pub mod Scan
 pub mod Views
 pub mod Sections
+pub mod RoundTrip
+pub mod Validity

@@ -55,10 +55,10 @@ pub last_pushed : (o : Option ℕ) (xs : List ℕ) (y : ℕ) → last_or o (xs +
 last_pushed o [] y = refl
 last_pushed o (x ∷ xs) y = last_pushed (Some x) xs y
 
-falls_parts : (x y : ℕ) (xs : List ℕ) → never_falls (x ∷ y ∷ xs) ≡ true → (x ≤ y) × (never_falls (y ∷ xs) ≡ true)
+pub falls_parts : (x y : ℕ) (xs : List ℕ) → never_falls (x ∷ y ∷ xs) ≡ true → (x ≤ y) × (never_falls (y ∷ xs) ≡ true)
 falls_parts x y xs h = let both = and_parts (nat_le x y) (never_falls (y ∷ xs)) h in (leb-true x y both.0, both.1)
 
-falls_join : (x y : ℕ) (xs : List ℕ) → x ≤ y → never_falls (y ∷ xs) ≡ true → never_falls (x ∷ y ∷ xs) ≡ true
+pub falls_join : (x y : ℕ) (xs : List ℕ) → x ≤ y → never_falls (y ∷ xs) ≡ true → never_falls (x ∷ y ∷ xs) ≡ true
 falls_join x y xs le rest = rw (le-leb x y le) rest
 
 -- a number behind that isn't below the last keeps them from falling

@@ -1,7 +1,7 @@
 -- The two parts of an Elias-Fano list, and which words are one.
-use Rattle.std.specs.Prelude.{ℕ, ◌+◌, ◌-◌, ◌*◌, ◌/◌, ◌^◌, Bool, ◌&&◌, List, length, map, take, drop, sum_by, nat_le, ◌==◌}
+use Rattle.std.specs.Prelude.{◌≡◌, ℕ, ◌+◌, ◌-◌, ◌*◌, ◌/◌, ◌^◌, Bool, true, ◌&&◌, List, ◌++◌, length, map, take, drop, sum_by, nat_le, ◌==◌}
 use Rattle.std.specs.List.{list_all, enumerate_from}
-use Rattle.sx_spec.specs.Fields.{words_for, words_number, fields, is_zero_after, below_of, low_width, upper_bits, ones_of, joined, sums_items}
+use Rattle.sx_spec.specs.Fields.{words_for, words_number, fields, is_zero_after, below_of, low_width, upper_bits, low_words, upper_words, ones_of, joined, sums_items}
 use Rattle.sx_spec.specs.Layout.{neighbours}
 
 -- the numbers whose ones stand at these places and whose low bits these are
@@ -50,3 +50,10 @@ is_sums_list count below words =
     && is_sums_of count below (low_width count below)
     (ones_of (upper_bits count below) (words_number (upper_part count below words)))
     (fields (low_width count below) count (low_part count below words)))
+
+-- words that are the low and the upper words of so many numbers, which never fall and of which the last is one below a number
+pub record IsEncoded (count below : ℕ) (words items : List ℕ) : Type 0 where
+  pub size : length items ≡ count
+  pub end : below_of items ≡ below
+  pub keeps : never_falls items ≡ true
+  pub parts : low_words items ++ upper_words items ≡ words

@@ -1,8 +1,8 @@
 //! Which words are an Elias-Fano list.
-ghost use Rattle.std.specs.Prelude.{◌≡◌, ◌+◌, ◌*◌, ◌<◌, ◌≤◌, ◌^◌, ◌==◌, ◌&&◌, length, slice_index};
+ghost use Rattle.std.specs.Prelude.{◌≡◌, ◌+◌, ◌*◌, ◌<◌, ◌≤◌, ◌^◌, ◌==◌, ◌&&◌, ◌↔◌, ℕ, List, IsTrue, length, slice_index};
 ghost use Rattle.std.specs.Int.{bit_at};
 ghost use Rattle.sx_spec.specs.Fields.{ones_of, words_number};
-ghost use Rattle.sx_ef.specs.Parts.{is_sums_list, is_sums_of, low_size, upper_size};
+ghost use Rattle.sx_ef.specs.Parts.{IsEncoded, is_sums_list, is_sums_of, low_size, upper_size};
 ghost use Rattle.sx_ef.specs.Sections.{is_sums_from_zero};
 
 use crate::encode::low_bits;
@@ -98,9 +98,8 @@ pub(crate) fn are_sums_from_zero<F: Fields>(upper: &[u64], bits: u64, low: &F, b
     are_sums(upper, bits, low, below) && starts_at_zero(upper, low)
 }
 
-/// Whether the words are the low and the upper words of a list of `count` numbers that never fall, of which the last is
-/// `below - 1`.
-pub fn ef_valid(words: &[u64], count: u64, below: u64) -> bool
+/// Whether the words pass the test of a list.
+fn parts_pass(words: &[u64], count: u64, below: u64) -> bool
     requires some { 0 < count }
     requires few { count < 2 ^ 32 }
     requires above { 0 < below }
@@ -116,4 +115,17 @@ pub fn ef_valid(words: &[u64], count: u64, below: u64) -> bool
     }
     let low = Packed::new(Words::new(low), 0, count as usize, width);
     are_sums(upper, upper_bits, &low, below)
+}
+
+/// Whether the words are the low and the upper words of a list of `count` numbers that never fall, of which the last is
+/// `below - 1`.
+pub fn ef_valid(words: &[u64], count: u64, below: u64) -> bool
+    requires some { 0 < count }
+    requires few { count < 2 ^ 32 }
+    requires above { 0 < below }
+    requires size { length words.now ≡ low_size count below + upper_size count below }
+    ensures test { result ≡ is_sums_list count below words.now }
+    ensures lists { IsTrue result ↔ ((items : List ℕ) × IsEncoded count below words.now items) }
+{
+    parts_pass(words, count, below)
 }

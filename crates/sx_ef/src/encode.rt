@@ -1,7 +1,7 @@
 //! Nondecreasing lists as low and upper words.
-ghost use Rattle.std.specs.Prelude.{◌≡◌, ◌+◌, ◌*◌, ◌/◌, ◌%◌, ◌<◌, ◌≤◌, ◌^◌, ℕ, IfOk, length, map, slice_index};
+ghost use Rattle.std.specs.Prelude.{◌≡◌, ◌+◌, ◌*◌, ◌/◌, ◌%◌, ◌<◌, ◌≤◌, ◌^◌, ◌++◌, true, ℕ, IfOk, length, map, slice_index};
 ghost use Rattle.sx_spec.specs.Fields.{below_of, low_width, low_words, number_words, packed, upper_words};
-ghost use Rattle.sx_ef.specs.Parts.{places_number};
+ghost use Rattle.sx_ef.specs.Parts.{is_sums_list, numbers_in, places_number};
 
 use std::alloc::{AllocError, Global};
 use sx_fields::fields::FieldsMut;
@@ -73,6 +73,8 @@ pub fn encode(alloc: Global, list: &[u64]) -> Result<EfBuf, AllocError>
     ensures below { IfOk result (λ e. e.below ≡ below_of list.now) }
     ensures low { IfOk result (λ e. e.low.items ≡ low_words list.now) }
     ensures upper { IfOk result (λ e. e.upper.items ≡ upper_words list.now) }
+    ensures valid { IfOk result (λ e. is_sums_list e.count e.below (e.low.items ++ e.upper.items) ≡ true) }
+    ensures numbers { IfOk result (λ e. numbers_in e.count e.below (e.low.items ++ e.upper.items) ≡ list.now) }
 {
     let count = list.len() as u64;
     let below = list[list.len() - 1] + 1;

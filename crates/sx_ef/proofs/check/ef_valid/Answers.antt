@@ -1,13 +1,11 @@
-use Rattle.std.proofs.Common.{◌<◌, ◌^◌, ◌-◌, ◌+◌, ◌*◌, ◌/◌, sym, subst, arith}
-use Rattle.sx_ef.proofs.Widths.{upper_few}
+use Rattle.std.proofs.Common.{ℕ, List, IsTrue, ◌↔◌, sym, subst}
+use Rattle.sx_fields.proofs.Padding.{words_at}
+use Rattle.sx_ef.specs.Parts.{IsEncoded}
+use Rattle.sx_ef.proofs.Validity.{valid_exactly}
 use Rattle.sx_ef.proofs.check.ef_valid.Goals as goal
 
-pub overflow_add-upper_bits : goal.overflow_add-upper_bits
-overflow_add-upper_bits c =
-    let few = subst (λ w. c.args.count + (c.args.below - 1) / 2 ^ w < 3 * c.args.count) (sym c.low_bits-width.ensures.width) (upper_few c.args.count c.args.below c.requires.some c.requires.above) in
-    omega (arith, c.requires.few)
-
-pub are_sums-requires-clause-few : goal.are_sums-requires-clause-few
-are_sums-requires-clause-few c =
-    let few = subst (λ w. c.args.count + (c.args.below - 1) / 2 ^ w < 3 * c.args.count) (sym c.low_bits-width.ensures.width) (upper_few c.args.count c.args.below c.requires.some c.requires.above) in
-    omega (arith, c.requires.few)
+pub returns-clause-lists : goal.returns-clause-lists
+returns-clause-lists c =
+    let words = c.args.words.now in
+    subst (λ b. IsTrue b ↔ ((items : List ℕ) × IsEncoded c.args.count c.args.below words items)) (sym c.parts_pass.ensures)
+    (valid_exactly c.args.count c.args.below words c.requires.some (words_at words c.type_inv.words) c.requires.size)

@@ -1,6 +1,7 @@
-use Rattle.std.proofs.Common.{◌≡◌, ◌∙◌, ◌<◌, ◌^◌, ◌-◌, ◌+◌, ◌*◌, ◌/◌, ◌%◌, ℕ, List, length, map, get_or, sym, subst, ap, arith, None}
-use Rattle.sx_spec.specs.Fields.{below_of, low_width, packed, number_words}
-use Rattle.sx_ef.specs.Parts.{places_number}
+use Rattle.std.proofs.Common.{◌≡◌, ◌∙◌, ◌<◌, ◌≤◌, ◌^◌, ◌-◌, ◌+◌, ◌*◌, ◌/◌, ◌%◌, ℕ, List, true, ◌++◌, length, map, get_or, sym, subst, ap, arith, None}
+use Rattle.sx_spec.specs.Fields.{below_of, low_width, packed, number_words, low_words, upper_words}
+use Rattle.sx_ef.specs.Parts.{places_number, is_sums_list, numbers_in}
+use Rattle.sx_ef.proofs.RoundTrip.{round_trip}
 use Rattle.sx_ef.proofs.Encoding.{last_is, places_within}
 use Rattle.sx_ef.proofs.Widths.{upper_few}
 use Rattle.sx_ef.proofs.encode.encode.Goals as goal
@@ -42,3 +43,20 @@ returns-clause-upper c =
     let end = end_is list c.requires.some in
     let width : c.low_bits-width.result ≡ low_width (length list) (below_of list) = c.low_bits-width.ensures.width ∙ ap (low_width (length list)) end in
     c.in_ok-upper.ensures ∙ (λ j. number_words (length list + (end j - 1) / 2 ^ width j) (places_number (width j) list))
+
+-- what is encoded, and what it stands for
+ends : (list : List ℕ) (below : ℕ) (low upper : List ℕ) → 0 < length list → ((i : ℕ) → i + 1 < length list → get_or list i 0 ≤ get_or list (i + 1) 0) → below ≡ below_of list → low ≡ low_words list → upper ≡ upper_words list → (is_sums_list (length list) below (low ++ upper) ≡ true) × (numbers_in (length list) below (low ++ upper) ≡ list)
+ends list below low upper some rising below_is low_is upper_is =
+    let trip = round_trip list some rising in
+    let whole : low ++ upper ≡ low_words list ++ upper_words list = λ i. low_is i ++ upper_is i in
+    ((λ i. is_sums_list (length list) (below_is i) (whole i)) ∙ trip.0, (λ i. numbers_in (length list) (below_is i) (whole i)) ∙ trip.1)
+
+pub returns-clause-valid : goal.returns-clause-valid
+returns-clause-valid c =
+    let list = c.args.list.now in
+    (ends list (get_or list (length list - 1) 0 + 1) c.in_ok-low.low.items c.in_ok-upper.upper.items c.requires.some c.requires.rising (returns-clause-below c) (returns-clause-low c) (returns-clause-upper c)).0
+
+pub returns-clause-numbers : goal.returns-clause-numbers
+returns-clause-numbers c =
+    let list = c.args.list.now in
+    (ends list (get_or list (length list - 1) 0 + 1) c.in_ok-low.low.items c.in_ok-upper.upper.items c.requires.some c.requires.rising (returns-clause-below c) (returns-clause-low c) (returns-clause-upper c)).1
