@@ -64,7 +64,7 @@ fn set_places(alloc: Global, list: &[u64], width: u32, bits: u64) -> Result<Vec<
 ///
 /// # Errors
 /// Only for want of memory.
-pub fn encode(alloc: Global, list: &[u64]) -> Result<EfBuf, AllocError>
+pub(crate) fn encode(alloc: Global, list: &[u64]) -> Result<EfBuf, AllocError>
     requires some { 0 < length list.now }
     requires short { length list.now < 2 ^ 32 }
     requires rising { (i : ℕ) → i + 1 < length list.now → slice_index list.now i ≤ slice_index list.now (i + 1) }

@@ -2,7 +2,6 @@
 ghost use Rattle.std.specs.Prelude.{◌≡◌, ◌+◌, ◌<◌, length};
 
 use crate::check::ef_valid;
-use crate::encode::encode;
 use crate::section::sums_check;
 use crate::view::EliasFano;
 use std::marker::Brand;
@@ -43,11 +42,11 @@ fn at<B: WordBank + Copy>(list: &EliasFano<B>, i: usize) -> (Option<u64>, Option
 
 #[test]
 fn encoded_lists(rt: HostRuntime) -> Result<(), Fail> {
-    let list = encode(rt.alloc(), &[2, 3, 5, 7, 11, 13, 24])?;
+    let list = EliasFano::encode(rt.alloc(), &[2, 3, 5, 7, 11, 13, 24])?;
     assert_eq!(rt; (list.count, list.below), (7, 25));
     assert_eq!(rt; list.low.as_slice(), [62].as_slice());
     assert_eq!(rt; list.upper.as_slice(), [264_790].as_slice());
-    let zero = encode(rt.alloc(), &[0])?;
+    let zero = EliasFano::encode(rt.alloc(), &[0])?;
     assert_eq!(rt; (zero.count, zero.below, zero.low.len()), (1, 1, 0));
     assert_eq!(rt; zero.upper.as_slice(), [1].as_slice());
     Ok(())

@@ -1,13 +1,13 @@
 //! An Elias-Fano list in the words of a bank.
-ghost use Rattle.std.specs.Prelude.{◌≡◌, ◌+◌, ◌<◌, ◌≤◌, ◌^◌, All, IfOk, drop, length, slice_index, true};
-ghost use Rattle.sx_spec.specs.Fields.{fields, ones_of};
+ghost use Rattle.std.specs.Prelude.{◌≡◌, ◌+◌, ◌<◌, ◌≤◌, ◌^◌, ◌++◌, ℕ, All, IfOk, drop, length, slice_index, true};
+ghost use Rattle.sx_spec.specs.Fields.{below_of, fields, low_words, ones_of, upper_words};
 ghost use Rattle.sx_ranksel.specs.Directory.{number_at, rank_of};
 ghost use Rattle.sx_ef.specs.Parts.{is_sums_list, low_size, numbers_in, sums_of, upper_size};
 
-use crate::encode::low_bits;
+use crate::encode::{EfBuf, encode, low_bits};
 use std::alloc::{AllocError, Global};
 use std::sync::ledger::Ledger;
-use sx_fields::bank::WordBank;
+use sx_fields::bank::{WordBank, Words};
 use sx_fields::fields::Fields;
 use sx_fields::packed::Packed;
 use sx_ranksel::ranksel::RankSel;
@@ -29,6 +29,27 @@ pub struct EliasFano<B: WordBank + Copy> {
         (sums_of width
         (ones_of upper.bits (number_at upper.first (B.words_of upper.bank)))
         (fields low.width low.len (drop low.first (B.words_of low.bank)))) },
+}
+
+impl EliasFano<Words<'static>> {
+    /// The low and the upper words of numbers that never fall. No number is 2^64 - 1.
+    ///
+    /// # Errors
+    /// Only for want of memory.
+    pub fn encode(alloc: Global, list: &[u64]) -> Result<EfBuf, AllocError>
+        requires some { 0 < length list.now }
+        requires short { length list.now < 2 ^ 32 }
+        requires rising { (i : ℕ) → i + 1 < length list.now → slice_index list.now i ≤ slice_index list.now (i + 1) }
+        requires last { below_of list.now < 2 ^ 64 }
+        ensures count { IfOk result (λ e. e.count ≡ length list.now) }
+        ensures below { IfOk result (λ e. e.below ≡ below_of list.now) }
+        ensures low { IfOk result (λ e. e.low.items ≡ low_words list.now) }
+        ensures upper { IfOk result (λ e. e.upper.items ≡ upper_words list.now) }
+        ensures valid { IfOk result (λ e. is_sums_list e.count e.below (e.low.items ++ e.upper.items) ≡ true) }
+        ensures numbers { IfOk result (λ e. numbers_in e.count e.below (e.low.items ++ e.upper.items) ≡ list.now) }
+    {
+        encode(alloc, list)
+    }
 }
 
 impl<B: WordBank + Copy> EliasFano<B> {
