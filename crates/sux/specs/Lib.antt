@@ -11,3 +11,4 @@ pub mod Storing
 pub mod Preparing
 pub mod KeyReading
 pub mod Served
+pub mod RealFiles
