@@ -14,7 +14,6 @@ use Rattle.sux.proofs.FedLines.{lines-fed, lines-last, lines-fed_all, fed-push, 
 pub starts : (first : Option (List ℕ)) → Progress first first [] false []
 starts first = record { state = inl (record { taken = Consumes-nil first; no_feeds = tt }); end = λ e. absurd cc }
 
-
 -- what was taken, and all that was there, begins with the lines that were read
 pub breaks_behind : (first now : Option (List ℕ)) (held : List ℕ) (ended : Bool) (ls : List Text) → Progress first now held ended ls → BreaksBehind first now ls
 breaks_behind first now held ended ls p = elim p.state [

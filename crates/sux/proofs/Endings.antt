@@ -67,13 +67,13 @@ module _ (p : Profile) (task : Task) (before after : World) (ticks : ℕ) (quiet
   by_message o due text text_is status result same no_fault no_memory no_file files input out (inl told) queries reads reads_cut unused counts =
       subst (Promise p task before after ticks) (sym told.is)
       (by_outcome p task before after ticks status o due same no_fault no_memory
-        (record {
-          files = subst (λ f. ChangesFiles f before.files after.files) (sym no_file) files;
-          input = input;
-          out = out;
-          err = subst (Appends before.err after.err) (sym text_is) told.err;
-        })
-        reads unused counts)
+      (record {
+        files = subst (λ f. ChangesFiles f before.files after.files) (sym no_file) files;
+        input = input;
+        out = out;
+        err = subst (Appends before.err after.err) (sym text_is) told.err;
+      })
+      reads unused counts)
   by_message o due text text_is status result same no_fault no_memory no_file files input out (inr cut) queries reads reads_cut unused counts =
       let (part, begins, err) = cut.err in
       subst (Promise p task before after ticks) (sym cut.is)

@@ -122,7 +122,7 @@ module _ (keys : ℕ) (cells : List ℕ) (few : keys ≤ 1024) (count : length c
       let front : take 14 (first_front keys ++ cells) ≡ first_front keys = take-append_seam (first_front keys) cells in
       let same : bytes_eq (take 14 (first_front keys ++ cells)) (first_front keys) ≡ true = (bytes_eq-Decides (take 14 (first_front keys ++ cells)) (first_front keys)).1 front in
       let here : is_first (first_front keys ++ cells) (8 * first_size keys) ≡ true =
-          both_true (nat_le keys chunk_size) _ (le-leb keys chunk_size few) (both_true (8 * first_size keys == 8 * first_size keys) _ (is_same _ _ refl) same) in
+      both_true (nat_le keys chunk_size) _ (le-leb keys chunk_size few) (both_true (8 * first_size keys == 8 * first_size keys) _ (is_same _ _ refl) same) in
       let there : is_first_dump (dump_bytes (first_dump keys cells)) ≡ true = ap (λ (ws : List ℕ). is_first ws (length (dump_bytes (first_dump keys cells)))) words_are ∙ ap (is_first (first_front keys ++ cells)) bytes_length ∙ here in
       ap (λ b. if b then None else Some first_unknown) there
 

@@ -44,7 +44,7 @@ faults_before limits xs ys =
     ap (filter_map (fault_at limits (xs ++ ys))) (enumerate_from-append 1 xs ys)
     ∙ filter_map-append (fault_at limits (xs ++ ys)) (enumerate_from 1 xs) (enumerate_from (1 + length xs) ys)
     ∙ ap (λ l. l ++ filter_map (fault_at limits (xs ++ ys)) (enumerate_from (1 + length xs) ys))
-        (same_faults limits (xs ++ ys) xs 0 xs (λ i lt. let e : 0 + i ≡ i = omega arith in rw e (take-append-le i xs ys (omega arith))))
+    (same_faults limits (xs ++ ys) xs 0 xs (λ i lt. let e : 0 + i ≡ i = omega arith in rw e (take-append-le i xs ys (omega arith))))
 
 -- where the lines so far are keys, the next one's fault is that of its refusal
 next_fault : (limits : Limits) (xs : List Text) (x : Text) (ys : List Text) → fault_at limits (xs ++ x ∷ ys) (1 + length xs, x) ≡ option_map (λ r. record { line = 1 + length xs; reason = r }) (refusal limits xs x)

@@ -70,10 +70,11 @@ serves ls more fine = cases (first_query_fault first_limits (ls ++ more)) refl
     cases None is = (more, ap (λ (o : Option QueryFault). option_map_or (λ fault. take (fault.line - 1) (ls ++ more)) o (ls ++ more)) is)
     cases (Some fault) is =
         let far = refusal_behind first_limits (1 + length ls) more fault (sym split ∙ is) in
-        let at : fault.line - 1 ≡ length ls + (fault.line - 1 - length ls) = omega arith in
-        (take (fault.line - 1 - length ls) more,
+        let at : fault.line - 1 ≡ length ls + (fault.line - 1 - length ls) = omega arith in (
+          take (fault.line - 1 - length ls) more,
           ap (λ (o : Option QueryFault). option_map_or (λ fault. take (fault.line - 1) (ls ++ more)) o (ls ++ more)) is
-          ∙ ap (λ (n : ℕ). take n (ls ++ more)) at ∙ take-append-add ls more (fault.line - 1 - length ls))
+              ∙ ap (λ (n : ℕ). take n (ls ++ more)) at ∙ take-append-add ls more (fault.line - 1 - length ls),
+        )
 
 -- the answers to more lines begin with those to the first
 pub answers_begin : (d : Dump) (ls rest : List Text) → answers d (ls ++ rest) ≡ answers d ls ++ answers d rest
@@ -160,8 +161,10 @@ module _ (name : Text) (before after : World) (ticks : ℕ) (counts : NoCountFel
       where
         -- more lines are answered behind these
         longer : (asked rest : List Text) → asked ≡ ls ++ rest → IsPrefix out (answers (first_dump keys cells) asked)
-        longer asked rest are = (tail ++ answers (first_dump keys cells) rest,
-          ap (answers (first_dump keys cells)) are ∙ answers_begin (first_dump keys cells) ls rest ∙ ap (λ (l : List ℕ). l ++ answers (first_dump keys cells) rest) is ∙ append_assoc out tail (answers (first_dump keys cells) rest))
+        longer asked rest are = (
+          tail ++ answers (first_dump keys cells) rest,
+          ap (answers (first_dump keys cells)) are ∙ answers_begin (first_dump keys cells) ls rest ∙ ap (λ (l : List ℕ). l ++ answers (first_dump keys cells) rest) is ∙ append_assoc out tail (answers (first_dump keys cells) rest),
+        )
 
         done : (asked rest : List Text) → InputHas before asked → first_query_fault first_limits asked ≡ None → asked ≡ ls ++ rest → BeginsDue first_path task before (λ o. o.out) out
         done asked rest has none are = inr (

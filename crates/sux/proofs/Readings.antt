@@ -75,5 +75,5 @@ pub pushed_key : (first now : Option (List ℕ)) (held : List ℕ) (ended : Bool
 pushed_key first now held ended ls line n reason at valid refused progress =
     refused_line first now ls (λ l. l ≡ line) (record { line = n; reason = reason }) (stops_at_last first now held ended ls line (λ l. l ≡ line) refl progress)
     (λ other more same.
-        let refused_other : refusal first_limits ls other ≡ Some reason = ap (refusal first_limits ls) same ∙ refused in
-        first_fault_is first_limits ls other more reason valid refused_other ∙ ap (λ (k : ℕ). Some (record { line = k; reason = reason })) (sym at))
+    let refused_other : refusal first_limits ls other ≡ Some reason = ap (refusal first_limits ls) same ∙ refused in
+    first_fault_is first_limits ls other more reason valid refused_other ∙ ap (λ (k : ℕ). Some (record { line = k; reason = reason })) (sym at))

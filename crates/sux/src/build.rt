@@ -25,8 +25,7 @@ use sx_spec::Status;
 
 /// Tells why a line is no key.
 fn refuse_key<E: Sink>(alloc: Global, err: &mut E, line: u64, reason: KeyReason) -> Status
-    ensures told {
-        Tells (first_key_text (fault_of line reason)) BadInput (E.written err.old) (E.written err.new) (E.faults err.old) (E.faults err.new) result
+    ensures told { Tells (first_key_text (fault_of line reason)) BadInput (E.written err.old) (E.written err.new) (E.faults err.old) (E.faults err.new) result
         ⊎ Tells memory_text Memory (E.written err.old) (E.written err.new) (E.faults err.old) (E.faults err.new) result }
     ensures later { E.faults err.old ≤ E.faults err.new }
 {
@@ -37,7 +36,13 @@ fn refuse_key<E: Sink>(alloc: Global, err: &mut E, line: u64, reason: KeyReason)
 }
 
 /// Writes the dump to its file, and then the line on it to out.
-fn store<F: Shelf, O: Sink>(name: &str, bytes: &[u8], line: &[u8], files: &mut F, out: &mut O) -> Status
+fn store<F: Shelf, O: Sink>(
+    name: &str,
+    bytes: &[u8],
+    line: &[u8],
+    files: &mut F,
+    out: &mut O,
+) -> Status
     requires { F.in_use files.old ≡ idle }
     ensures stored { Stores name.now bytes.now line.now
         (record { files = F.files files.old; out = O.written out.old; shelf_faults = F.faults files.old; out_faults = O.faults out.old })

@@ -24,12 +24,11 @@ use crate::run::run;
 use crate::shelf::RealShelf;
 use crate::streams::{InputStream, OutputStream};
 use crate::telling::tell;
-use std::env;
-use std::io;
 use std::io::ErrorKind;
 use std::marker::Brand;
 use std::process::ExitCode;
 use std::sync::ledger::{Blank, Ledger};
+use std::{env, io};
 use sx_edge::words::WordList;
 use sx_spec::Status;
 use sx_steps::Steps;
@@ -67,7 +66,15 @@ fn run_counted<L: Ledger>(host: HostRuntime, words: &WordList, blank: Blank) -> 
     let mut out = OutputStream::new(host.stdout());
     let mut err = OutputStream::new(host.stderr());
     let mut steps = Steps::<L>::new(blank);
-    run(host.alloc(), words, &mut files, &mut input, &mut out, &mut err, &mut steps)
+    run(
+        host.alloc(),
+        words,
+        &mut files,
+        &mut input,
+        &mut out,
+        &mut err,
+        &mut steps,
+    )
 }
 
 /// Runs the words over the files and streams of the system.
@@ -80,7 +87,11 @@ fn main(host: HostRuntime) -> ExitCode {
         Ok(words) => run_words(host, &words),
         Err(e) if e.kind() == ErrorKind::OutOfMemory => Status::Memory,
         // a word that isn't text is no word of a command
-        Err(_) => tell(&mut OutputStream::new(host.stderr()), &usage_message(), Status::Usage),
+        Err(_) => tell(
+            &mut OutputStream::new(host.stderr()),
+            &usage_message(),
+            Status::Usage,
+        ),
     };
     ExitCode::from(code(status))
 }

@@ -69,7 +69,13 @@ fn write_held<O: Sink>(replies: &mut TextBuffer, ready: bool, out: &mut O) -> Re
 }
 
 /// Puts the reply to a line behind the others.
-fn put_reply<L: Ledger>(words: &[u64], keys: u32, line: &[u8], replies: &mut TextBuffer, steps: &mut Steps<L>)
+fn put_reply<L: Ledger>(
+    words: &[u64],
+    keys: u32,
+    line: &[u8],
+    replies: &mut TextBuffer,
+    steps: &mut Steps<L>,
+)
     requires dump { AreDumpWords keys words.now }
     requires short { length line.now ≤ 8191 }
     requires room { length replies.old ≤ 65515 }

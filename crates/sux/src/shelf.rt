@@ -37,7 +37,6 @@ impl RealShelf {
             faults: 0,
         }
     }
-
 }
 
 impl Shelf for RealShelf {

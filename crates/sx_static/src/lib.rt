@@ -16,8 +16,8 @@ use std::alloc::{AllocError, Global};
 use sx_peel::{Edge, Peeled, peel};
 use sx_sig::segment;
 pub use sx_spec::{Method, Signature};
-pub use view::FuncView;
 use twins::twins;
+pub use view::FuncView;
 
 /// A function as it is built.
 #[derive(Debug, Drop)]

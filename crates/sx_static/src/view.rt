@@ -4,14 +4,12 @@ ghost use Rattle.std.specs.Prelude.{◌≡◌, ◌+◌, ◌≤◌, ◌<◌, ◌^
 ghost use Rattle.sx_spec.specs.StaticFunction.{value_of};
 ghost use Rattle.sx_static.specs.Viewing.{IsOneChunk, one_chunk_function};
 
+use crate::Signature;
 use std::alloc::AllocError;
 use std::sync::ledger::Ledger;
-
 use sx_fields::bank::WordBank;
 use sx_sig::places;
 use sx_steps::Steps;
-
-use crate::Signature;
 
 /// A function of one chunk whose table and cells stand in a bank from word `first` on.
 #[derive(Copy)]

@@ -43,8 +43,8 @@ returns-in-Done c =
     c.in_ok-bytes-in-Done.bytes.items c.in_ok-line-in-Done.line.items
     (rw (← count, ← c.deref-in-Done.ensures.value) c.in_ok-bytes-in-Done.ensures)
     (c.in_ok-line-in-Done.ensures
-      ∙ ap (λ (k : ℕ). codes "keys " ++ decimal k ++ codes " seed " ++ decimal 0 ++ codes " words " ++ decimal (14 + 3 * c.from.result) ++ 10 ∷ []) (c.from-in-Done.ensures ∙ count)
-      ∙ ap (λ (s : ℕ). codes "keys " ++ decimal (length lines) ++ codes " seed " ++ decimal 0 ++ codes " words " ++ decimal (14 + 3 * s) ++ 10 ∷ []) (c.from.ensures ∙ c.segment.ensures ∙ ap (λ (n : ℕ). segment Mwhc n) count))
+    ∙ ap (λ (k : ℕ). codes "keys " ++ decimal k ++ codes " seed " ++ decimal 0 ++ codes " words " ++ decimal (14 + 3 * c.from.result) ++ 10 ∷ []) (c.from-in-Done.ensures ∙ count)
+    ∙ ap (λ (s : ℕ). codes "keys " ++ decimal (length lines) ++ codes " seed " ++ decimal 0 ++ codes " words " ++ decimal (14 + 3 * s) ++ 10 ∷ []) (c.from.ensures ∙ c.segment.ensures ∙ ap (λ (n : ℕ). segment Mwhc n) count))
 
 pub returns-in-Twins : goal.returns-in-Twins
 returns-in-Twins c =
