@@ -1,19 +1,19 @@
 -- Where the walk of a string ends is its exit.
-use Rattle.std.proofs.Common.{◌≡◌, ℕ, zero, suc, ◌+◌, ◌-◌, ◌<◌, ◌≤◌, Bool, true, false, List, [], ◌∷◌, length, get_or, take, refl, sym, ap, subst, ◌∙◌, arith, inl, inr}
+use Rattle.std.proofs.Common.{◌≡◌, ℕ, zero, suc, ◌+◌, ◌-◌, ◌<◌, ◌≤◌, Bool, true, false, List, [], ◌∷◌, ◌++◌, ◌≢◌, length, get_or, take, drop, refl, sym, ap, ap₂, subst, ◌∙◌, arith, inl, inr}
 use Rattle.std.specs.Prelude.{count_by, not, ◌⊎◌}
 use Rattle.std.specs.List.{list_all, position_or_len}
 use Rattle.std.proofs.lemmas.Bool.{cases_Bool, cases_lt, cases_eq, false_from_ne_true}
-use Rattle.std.proofs.lemmas.List.{length-take-le}
+use Rattle.std.proofs.lemmas.List.{length-take, length-drop, length-take-le, take_all, take-take, take-append-drop, drop-take}
 use Rattle.sx_spec_strings.specs.Bits.{Bits, AreKeyBits, bit_at, bits_cmp, bits_eq, begins_with, common_prefix, common_prefix_of, is_below, is_proper_prefix}
 use Rattle.sx_spec_strings.specs.Ordered.{IsIn, IsRising}
-use Rattle.sx_spec_strings.proofs.BitLaws.{begins_trans, begins_length, begins_shorter, begins_between, begins_both, begins_not_below, below_asym, below_total, below_irrefl, common_begins_left, common_begins_right, common_longest, proper_parts, proper_from, whole_or_proper}
+use Rattle.sx_spec_strings.proofs.BitLaws.{begins_refl, begins_whole, common_of_prefix, begins_trans, begins_length, begins_shorter, begins_between, begins_both, begins_not_below, below_asym, below_total, below_irrefl, common_begins_left, common_begins_right, common_longest, proper_parts, proper_from, whole_or_proper}
 use Rattle.std.specs.declared.cmp.Ordering.{Ordering}
 use Rattle.std.specs.Ordering.{is_lt}
 use Rattle.sx_spec_strings.proofs.KeyBits.{tests_are_the_order}
 use Rattle.sx_spec_strings.proofs.OrderedLaws.{rising_first, rising_rest}
 use Rattle.sx_spec_kinds.specs.Trie.{Place, inner, leaf, extents_of, under, name_len, place_of, exit_of}
 use Rattle.sx_spec_kinds.specs.Hollow.{Stand}
-use Rattle.sx_spec_kinds.proofs.NameLaws.{begins_take, in_at, bits_same, bits_eq_refl, name_len_above, name_len_from}
+use Rattle.sx_spec_kinds.proofs.NameLaws.{begins_take, take_of_begins, in_at, bits_same, bits_eq_refl, name_len_above, name_len_from}
 use Rattle.sx_spec_kinds.proofs.TrieLaws.{extents_rising, extents_trie, common_extent}
 use Rattle.sx_spec_kinds.proofs.CountLaws.{count_some, length-under, in_under, under_from}
 use Rattle.sx_spec_kinds.proofs.ChildLaws.{parts, begins_longer}
@@ -217,38 +217,89 @@ module _ (ds : List Bits) (keys : AreKeyBits ds) (x : Bits) (s : Stand) (h : Sta
 
 -- ---- the test whether a walk goes on
 
+-- a front of the strings, and what follows it up to bit n
+front_and_rest : (x : Bits) (m n : ℕ) → m ≤ n → take n x ≡ take m x ++ take (n - m) (drop m x)
+front_and_rest x m n le =
+    let e : n ≡ m + (n - m) = omega arith in
+    let whole = take-append-drop m (take (m + (n - m)) x) in
+    ap (λ k. take k x) e ∙ sym (rw (take-take m (m + (n - m)) x (omega arith), drop-take m (n - m) x) at whole)
+
+-- strings of one length with a common prefix of that length are one
+whole_common : (x y : Bits) (n : ℕ) → length x ≡ n → length y ≡ n → length (common_prefix x y) ≡ n → x ≡ y
+whole_common x y n lx ly all =
+    sym (begins_whole x (common_prefix x y) (common_begins_left x y) (omega arith))
+    ∙ begins_whole y (common_prefix x y) (common_begins_right x y) (omega arith)
+
+pub fronts_same : (x d : Bits) (name extent : ℕ) → name ≤ extent → extent ≤ length x → extent ≤ length d → take name d ≡ take name x
+    → length (common_prefix (take (extent - name) (drop name x)) (take (extent - name) (drop name d))) ≡ extent - name → take extent x ≡ take extent d
+fronts_same x d name extent le lx ld shared all =
+    let a = length-take (extent - name) (drop name x) in
+    let b = length-drop name x in
+    let c = length-take (extent - name) (drop name d) in
+    let e = length-drop name d in
+    let rest = whole_common (take (extent - name) (drop name x)) (take (extent - name) (drop name d)) (extent - name) (omega arith) (omega arith) all in
+    front_and_rest x name extent le
+    ∙ ap₂ (λ (u v : Bits). u ++ v) (sym shared) rest
+    ∙ sym (front_and_rest d name extent le)
+
+pub fronts_differ : (x d : Bits) (name extent : ℕ) → name ≤ extent → extent ≤ length x → extent ≤ length d
+    → (length (common_prefix (take (extent - name) (drop name x)) (take (extent - name) (drop name d))) ≡ extent - name → ⊥) → take extent x ≢ take extent d
+fronts_differ x d name extent le lx ld apart same =
+    let e : extent ≡ name + (extent - name) = omega arith in
+    let a = length-take (extent - name) (drop name x) in
+    let b = length-drop name x in
+    let rest : take (extent - name) (drop name x) ≡ take (extent - name) (drop name d) =
+    sym (drop-take name (extent - name) x) ∙ ap (λ n. drop name (take n x)) (sym e) ∙ ap (drop name) same ∙ ap (λ n. drop name (take n d)) e ∙ drop-take name (extent - name) d in
+    let u = take (extent - name) (drop name x) in
+    let whole : common_prefix u u ≡ u = common_of_prefix u u (begins_refl u) in
+    apart (ap (λ v. length (common_prefix u v)) (sym rest) ∙ ap length whole ∙ (let n : length u ≡ extent - name = omega arith in n))
+
+-- a string begins with a prefix of a delimiter where the fronts of both are one
+pub walk_goes_on : (d x e : Bits) (extent : ℕ) → extent ≡ length e → begins_with d e ≡ true → take extent x ≡ take extent d → begins_with x e ≡ true
+walk_goes_on d x e extent is d_e same =
+    let front : take extent d ≡ e = take_of_begins d e extent d_e (omega arith) ∙ take_all extent e (omega arith) in
+    subst (λ p. begins_with x p ≡ true) (same ∙ front) (begins_take extent x)
+
 -- where the walk ends at an inner node, the extent is no proper prefix of the string
-pub walk_stops : (d x e : Bits) (extent : ℕ) → extent ≡ length e → begins_with d e ≡ true → (length x ≤ extent) ⊎ (length (common_prefix d x) < extent)
+pub walk_stops : (d x e : Bits) (extent : ℕ) → extent ≡ length e → begins_with d e ≡ true → (length x ≤ extent) ⊎ (take extent x ≢ take extent d)
     → begins_with x e ≡ true → length e < length x → ⊥
 walk_stops d x e extent is d_e (inl short) x_e longer = absurd (omega arith)
-walk_stops d x e extent is d_e (inr short) x_e longer =
-    let long = begins_length (common_prefix d x) e (common_longest d x e d_e x_e) in
-    absurd (omega arith)
+walk_stops d x e extent is d_e (inr apart) x_e longer =
+    apart (take_of_begins x e extent x_e (omega arith) ∙ sym (take_of_begins d e extent d_e (omega arith)))
 
-pub walk_goes_on : (d x e : Bits) → begins_with d e ≡ true → length e ≤ length (common_prefix d x) → begins_with x e ≡ true
-walk_goes_on d x e d_e long =
-    begins_trans x (common_prefix d x) e (common_begins_right d x) (begins_shorter d e (common_prefix d x) d_e (common_begins_left d x) long)
+-- what a string shares with the delimiters where its walk stands
+pub shared_name : (ds : List Bits) (keys : AreKeyBits ds) (x : Bits) (s : Stand) (h : StandsAt ds keys x s) (more : 1 < s.leaves) → s.first < length ds
+    → (s.pos ≤ length (extent_at ds s)) × (take s.pos (get_or ds s.first []) ≡ take s.pos x)
+shared_name ds keys x s h more inside =
+    let e = extent_at ds s in
+    let d = get_or ds s.first [] in
+    let f = first_here ds keys x s h more in
+    let size = length-take-le s.pos x h.inside in
+    let long = begins_length e (take s.pos x) f.begins in
+    let d_e = under_at ds keys x s h more s.first inside (omega arith) (omega arith) in
+    let d_n = begins_trans d e (take s.pos x) d_e f.begins in
+    (omega arith, take_of_begins d (take s.pos x) s.pos d_n (omega arith) ∙ take_all s.pos (take s.pos x) (omega arith))
 
 -- ---- the start and the steps of a walk
 
--- a walk stands somewhere, after some name
-abbrev pub Walks : (ds : List Bits) (keys : AreKeyBits ds) (x : Bits) (at leaves first : ℕ) → Type 0
-Walks ds keys x at leaves first = (name : ℕ) × StandsAt ds keys x (record { node = at; leaves = leaves; first = first; pos = name })
+-- a walk stands at a place, after a name
+abbrev pub Walks : (ds : List Bits) (keys : AreKeyBits ds) (x : Bits) (at leaves first name : ℕ) → Type 0
+Walks ds keys x at leaves first name = StandsAt ds keys x (record { node = at; leaves = leaves; first = first; pos = name })
 
-pub walk_starts : (ds : List Bits) (keys : AreKeyBits ds) (x : Bits) (leaves : ℕ) → leaves ≡ length ds → 0 < length ds → Walks ds keys x 0 leaves 0
-walk_starts ds keys x leaves all some = subst (λ n. Walks ds keys x 0 n 0) (sym all) (0, stands_start ds keys x some)
+pub walk_starts : (ds : List Bits) (keys : AreKeyBits ds) (x : Bits) (leaves : ℕ) → leaves ≡ length ds → 0 < length ds → Walks ds keys x 0 leaves 0 0
+walk_starts ds keys x leaves all some = subst (λ n. Walks ds keys x 0 n 0 0) (sym all) (stands_start ds keys x some)
 
 module _ (ds : List Bits) (keys : AreKeyBits ds) (x : Bits) (s : Stand) (h : StandsAt ds keys x s) (more : 1 < s.leaves)
     (extent first middle after : ℕ) (node : Found ds s extent first middle after) (inside : s.first + s.leaves ≤ length ds)
-    (longer : extent < length x) (shares : extent ≤ length (common_prefix (get_or ds s.first []) x)) where
+    (longer : extent < length x) (shares : take extent x ≡ take extent (get_or ds s.first [])) where
   child_stands : StandsAt ds keys x (at_child s (left_at ds s) (length (extent_at ds s)) (bit_at x (length (extent_at ds s))))
   child_stands =
       let is = node.extent_is in
       let d_e = under_at ds keys x s h more s.first (omega arith) (omega arith) (omega arith) in
-      let x_e = walk_goes_on (get_or ds s.first []) x (extent_at ds s) d_e (omega arith) in
+      let x_e = walk_goes_on (get_or ds s.first []) x (extent_at ds s) extent is d_e shares in
       on_child ds keys x s h more x_e (omega arith)
 
-  pub walk_right : bit_at x extent ≡ true → Walks ds keys x (s.node + (middle - first)) (after - middle) middle
+  pub walk_right : bit_at x extent ≡ true → Walks ds keys x (s.node + (middle - first)) (after - middle) middle (extent + 1)
   walk_right bit =
       let l = left_at ds s in
       let p = length (extent_at ds s) in
@@ -258,26 +309,24 @@ module _ (ds : List Bits) (keys : AreKeyBits ds) (x : Bits) (s : Stand) (h : Sta
       let e = node.after_is in
       let n1 : s.node + l ≡ s.node + (middle - first) = omega arith in
       let n2 : s.leaves - l ≡ after - middle = omega arith in
-      let n3 : s.first + l ≡ middle = omega arith in (
-        p + 1,
-        subst (StandsAt ds keys x)
-            (ap (at_child s l p) b ∙ (λ i. record { node = n1 i; leaves = n2 i; first = n3 i; pos = p + 1 }))
-            child_stands,
-      )
+      let n3 : s.first + l ≡ middle = omega arith in
+      let n4 : p + 1 ≡ extent + 1 = ap (λ m. m + 1) (sym node.extent_is) in
+      subst (StandsAt ds keys x)
+      (ap (at_child s l p) b ∙ (λ i. record { node = n1 i; leaves = n2 i; first = n3 i; pos = n4 i }))
+      child_stands
 
-  pub walk_left : bit_at x extent ≡ false → Walks ds keys x (s.node + 1) (middle - first) s.first
+  pub walk_left : bit_at x extent ≡ false → Walks ds keys x (s.node + 1) (middle - first) s.first (extent + 1)
   walk_left bit =
       let l = left_at ds s in
       let p = length (extent_at ds s) in
       let b : bit_at x p ≡ false = ap (bit_at x) (sym node.extent_is) ∙ bit in
       let a = node.first_is in
       let m = node.middle_is in
-      let n2 : l ≡ middle - first = omega arith in (
-        p + 1,
-        subst (StandsAt ds keys x)
-            (ap (at_child s l p) b ∙ (λ i. record { node = s.node + 1; leaves = n2 i; first = s.first; pos = p + 1 }))
-            child_stands,
-      )
+      let n2 : l ≡ middle - first = omega arith in
+      let n4 : p + 1 ≡ extent + 1 = ap (λ m. m + 1) (sym node.extent_is) in
+      subst (StandsAt ds keys x)
+      (ap (at_child s l p) b ∙ (λ i. record { node = s.node + 1; leaves = n2 i; first = s.first; pos = n4 i }))
+      child_stands
 
 -- ---- what stands to the right of a delimiter
 

@@ -1,8 +1,7 @@
 //! The trie of delimiters, as the list of its inner nodes in preorder.
 
-ghost use Rattle.std.specs.Prelude.{◌≡◌, ◌⊎◌, ◌+◌, ◌-◌, ◌<◌, ◌≤◌, length, slice_index};
+ghost use Rattle.std.specs.Prelude.{◌≡◌, ◌⊎◌, ◌+◌, ◌-◌, ◌<◌, ◌≤◌, ◌≢◌, true, length, slice_index, take};
 ghost use Rattle.std.specs.Bool.{MatchBool};
-ghost use Rattle.sx_spec_strings.specs.Bits.{common_prefix};
 ghost use Rattle.sx_spec_kinds.specs.Blocks.{block_of};
 ghost use Rattle.sx_spec_kinds.specs.Fattest.{fattest as fattest_of};
 ghost use Rattle.sx_spec_kinds.specs.Trie.{node_at, leaves_at, block_at_exit, exit_of as exit_in};
@@ -87,15 +86,18 @@ impl Trie {
         let mut at = 0;
         let mut first = 0;
         let mut after = self.delimiters.len() as u32;
+        // how many bits the string shares with the delimiters from `first` on
+        let mut name = 0;
         while after - first > 1 {
             let node = self.node(at);
             let delimiter = view_of(keys, &self.delimiters, first);
-            if !goes_on(&delimiter, view, node.extent) {
+            if !goes_on(&delimiter, view, name, node.extent) {
                 return Exit {
                     place: Place::Inner(at),
                     right: delimiter.order(view).is_lt(),
                 };
             }
+            name = node.extent + 1;
             if view.bit(node.extent) {
                 at += node.middle - node.first;
                 first = node.middle;
@@ -141,15 +143,19 @@ impl Trie {
 }
 
 /// Whether a walk goes on from a node with an extent of this length, under which the delimiter
-/// stands: whether the extent is a proper prefix of the string.
+/// stands: whether the extent is a proper prefix of the string. The first `name` bits are the same.
 #[inline(always)]
-fn goes_on(delimiter: &BitView<'_>, view: &BitView<'_>, extent: u32) -> bool
-    ensures { MatchBool result
-        ((extent < length (bits_of view.now)) × (extent ≤ length (common_prefix (bits_of delimiter.now) (bits_of view.now))))
-        ((length (bits_of view.now) ≤ extent) ⊎ (length (common_prefix (bits_of delimiter.now) (bits_of view.now)) < extent)) }
+fn goes_on(delimiter: &BitView<'_>, view: &BitView<'_>, name: u32, extent: u32) -> bool
+    requires ordered { name ≤ extent }
+    requires inside { extent ≤ length (bits_of delimiter.now) }
+    requires shared { take name (bits_of delimiter.now) ≡ take name (bits_of view.now) }
+    ensures proper { MatchBool result
+        ((extent < length (bits_of view.now)) × (take extent (bits_of view.now) ≡ take extent (bits_of delimiter.now)))
+        ((length (bits_of view.now) ≤ extent) ⊎ (take extent (bits_of view.now) ≢ take extent (bits_of delimiter.now))) }
+    ensures bound { result ≡ true → extent < 65536 }
 {
     if view.len() <= extent {
         return false;
     }
-    extent <= delimiter.lcp(view)
+    view.range(name, extent).lcp(&delimiter.range(name, extent)) == extent - name
 }

@@ -2,15 +2,15 @@ use Rattle.std.proofs.Common.{◌≡◌, ℕ, ◌+◌, ◌-◌, ◌<◌, Bool, t
 use Rattle.std.specs.Prelude.{slice_index_or}
 use Rattle.std.proofs.lemmas.List.{length-map}
 use Rattle.std.proofs.lemmas.List.Sums.{count_by-le-length}
-use Rattle.sx_spec_strings.specs.Bits.{Bits, begins_with, is_below, key_bits, common_prefix}
+use Rattle.sx_spec_strings.specs.Bits.{Bits, begins_with, is_below, key_bits}
 use Rattle.sx_spec_kinds.specs.Blocks.{block_of}
 use Rattle.sx_spec_kinds.proofs.ExitLaws.{exit_block}
 use Rattle.sx_spec_kinds.specs.Trie.{Exit, inner, leaf, extents_of, nodes_of, block_at_exit, exit_of as exit_in, node_of as node_in}
 use Rattle.sx_spec_kinds.specs.Hollow.{Stand}
 use Rattle.sx_bits.specs.Views.{bits_of}
 use Rattle.sx_trie.specs.Tries.{Contents, IsTrieOf, delimiter_bits, node_of}
-use Rattle.sx_trie.proofs.Stands.{extent_at, under_at, node_inside, found}
-use Rattle.sx_trie.proofs.ExitWalk.{Walks, walk_starts, walk_stops, walk_left, walk_right, exit_at_inner, exit_at_leaf, right_by_order}
+use Rattle.sx_trie.proofs.Stands.{extent_at, under_at, longer_at, node_inside, found}
+use Rattle.sx_trie.proofs.ExitWalk.{Walks, walk_starts, walk_stops, shared_name, walk_left, walk_right, exit_at_inner, exit_at_leaf, right_by_order}
 use Rattle.sx_trie.proofs.tries.Trie.exit.Goals as goal
 
 -- the block at the exit of a string
@@ -41,10 +41,73 @@ pub node-node-requires : goal.node-node-requires
 node-node-requires c =
     let ds = delimiter_bits c.args.keys.now.lines c.args.self.now.delimiters in
     let keys = c.requires.built.keys in
-    let (name, h) = c.loop-after.invariant.stands keys in
+    let name = c.loop-after.name in
+    let h = c.loop-after.invariant.stands keys in
     let inside = node_inside ds keys (bits_of c.args.view.now) _ h c.loop-after-test.true in
     let many = ap length c.requires.built.nodes ∙ length-map (extents_of ds) (node_in ds) in
     omega arith
+
+pub goes_on-requires-clause-ordered : goal.goes_on-requires-clause-ordered
+goes_on-requires-clause-ordered c =
+    let lines = c.args.keys.now.lines in
+    let ds = delimiter_bits lines c.args.self.now.delimiters in
+    let keys = c.requires.built.keys in
+    let x = bits_of c.args.view.now in
+    let h = c.loop-after.invariant.stands keys in
+    let s : Stand = record { node = c.loop-after.at; leaves = c.loop-after.after - c.loop-after.first; first = c.loop-after.first; pos = c.loop-after.name } in
+    let more : 1 < s.leaves = c.loop-after-test.true in
+    let many = count_of lines c.args.self.now.delimiters in
+    let inside = c.loop-after.invariant.inside in
+    let ordered = c.loop-after.invariant.ordered in
+    let node = found ds keys x s h more c.args.self.now.nodes c.requires.built.nodes (node_of c.node-node.result) c.node-node.ensures in
+    let numbers = c.deref.ensures.value ∙ ap (λ (t : Contents). t.delimiters) c.self.view_is in
+    let d_is : bits_of c.view_of-delimiter.result ≡ get_or ds c.loop-after.first [] =
+    c.view_of-delimiter.ensures ∙ ap (λ (ns : List ℕ). get_or (delimiter_bits lines ns) c.loop-after.first []) numbers in
+    let shared = shared_name ds keys x s h more (omega arith) in
+    let e = node.extent_is in
+    let within = shared.0 in
+    omega arith
+
+pub goes_on-requires-clause-inside : goal.goes_on-requires-clause-inside
+goes_on-requires-clause-inside c =
+    let lines = c.args.keys.now.lines in
+    let ds = delimiter_bits lines c.args.self.now.delimiters in
+    let keys = c.requires.built.keys in
+    let x = bits_of c.args.view.now in
+    let h = c.loop-after.invariant.stands keys in
+    let s : Stand = record { node = c.loop-after.at; leaves = c.loop-after.after - c.loop-after.first; first = c.loop-after.first; pos = c.loop-after.name } in
+    let more : 1 < s.leaves = c.loop-after-test.true in
+    let many = count_of lines c.args.self.now.delimiters in
+    let inside = c.loop-after.invariant.inside in
+    let ordered = c.loop-after.invariant.ordered in
+    let node = found ds keys x s h more c.args.self.now.nodes c.requires.built.nodes (node_of c.node-node.result) c.node-node.ensures in
+    let numbers = c.deref.ensures.value ∙ ap (λ (t : Contents). t.delimiters) c.self.view_is in
+    let d_is : bits_of c.view_of-delimiter.result ≡ get_or ds c.loop-after.first [] =
+    c.view_of-delimiter.ensures ∙ ap (λ (ns : List ℕ). get_or (delimiter_bits lines ns) c.loop-after.first []) numbers in
+    let shared = shared_name ds keys x s h more (omega arith) in
+    let e = node.extent_is in
+    let longer = longer_at ds keys x s h more s.first (omega arith) (omega arith) (omega arith) in
+    let same = ap length d_is in
+    omega arith
+
+pub goes_on-requires-clause-shared : goal.goes_on-requires-clause-shared
+goes_on-requires-clause-shared c =
+    let lines = c.args.keys.now.lines in
+    let ds = delimiter_bits lines c.args.self.now.delimiters in
+    let keys = c.requires.built.keys in
+    let x = bits_of c.args.view.now in
+    let h = c.loop-after.invariant.stands keys in
+    let s : Stand = record { node = c.loop-after.at; leaves = c.loop-after.after - c.loop-after.first; first = c.loop-after.first; pos = c.loop-after.name } in
+    let more : 1 < s.leaves = c.loop-after-test.true in
+    let many = count_of lines c.args.self.now.delimiters in
+    let inside = c.loop-after.invariant.inside in
+    let ordered = c.loop-after.invariant.ordered in
+    let node = found ds keys x s h more c.args.self.now.nodes c.requires.built.nodes (node_of c.node-node.result) c.node-node.ensures in
+    let numbers = c.deref.ensures.value ∙ ap (λ (t : Contents). t.delimiters) c.self.view_is in
+    let d_is : bits_of c.view_of-delimiter.result ≡ get_or ds c.loop-after.first [] =
+    c.view_of-delimiter.ensures ∙ ap (λ (ns : List ℕ). get_or (delimiter_bits lines ns) c.loop-after.first []) numbers in
+    let shared = shared_name ds keys x s h more (omega arith) in
+    ap (take c.loop-after.name) d_is ∙ shared.1
 
 pub returns-then-not-goes_on-clause-value : goal.returns-then-not-goes_on-clause-value
 returns-then-not-goes_on-clause-value c =
@@ -52,7 +115,8 @@ returns-then-not-goes_on-clause-value c =
     let ds = delimiter_bits lines c.args.self.now.delimiters in
     let keys = c.requires.built.keys in
     let x = bits_of c.args.view.now in
-    let (name, h) = c.loop-after.invariant.stands keys in
+    let name = c.loop-after.name in
+    let h = c.loop-after.invariant.stands keys in
     let s : Stand = record { node = c.loop-after.at; leaves = c.loop-after.after - c.loop-after.first; first = c.loop-after.first; pos = name } in
     let more : 1 < s.leaves = c.loop-after-test.true in
     let many = count_of lines c.args.self.now.delimiters in
@@ -64,7 +128,7 @@ returns-then-not-goes_on-clause-value c =
     c.view_of-delimiter.ensures ∙ ap (λ (ns : List ℕ). get_or (delimiter_bits lines ns) c.loop-after.first []) numbers in
     let d_e : begins_with (bits_of c.view_of-delimiter.result) (extent_at ds s) ≡ true =
     ap (λ (d : Bits). begins_with d (extent_at ds s)) d_is ∙ under_at ds keys x s h more s.first (omega arith) (omega arith) (omega arith) in
-    let stops = walk_stops (bits_of c.view_of-delimiter.result) x (extent_at ds s) c.node-node.result.extent node.extent_is d_e c.if-not-goes_on.ensures in
+    let stops = walk_stops (bits_of c.view_of-delimiter.result) x (extent_at ds s) c.node-node.result.extent node.extent_is d_e c.if-not-goes_on.ensures.proper in
     let right = right_by_order (bits_of c.view_of-delimiter.result) x c.order.result c.is_lt.result c.order.ensures c.is_lt.ensures
     ∙ ap (λ (d : Bits). is_below d x) d_is in
     ap (λ (r : Bool). let e : Exit = record { place = inner s.node; right = r } in e) right
@@ -74,7 +138,8 @@ pub returns-then-not-goes_on-clause-place : goal.returns-then-not-goes_on-clause
 returns-then-not-goes_on-clause-place c =
     let ds = delimiter_bits c.args.keys.now.lines c.args.self.now.delimiters in
     let keys = c.requires.built.keys in
-    let (name, h) = c.loop-after.invariant.stands keys in
+    let name = c.loop-after.name in
+    let h = c.loop-after.invariant.stands keys in
     let inside = node_inside ds keys (bits_of c.args.view.now) _ h c.loop-after-test.true in
     let many = ap length c.requires.built.nodes ∙ length-map (extents_of ds) (node_in ds) in
     omega arith
@@ -85,7 +150,8 @@ overflow_sub-at c =
     let ds = delimiter_bits lines c.args.self.now.delimiters in
     let keys = c.requires.built.keys in
     let x = bits_of c.args.view.now in
-    let (name, h) = c.loop-after.invariant.stands keys in
+    let name = c.loop-after.name in
+    let h = c.loop-after.invariant.stands keys in
     let s : Stand = record { node = c.loop-after.at; leaves = c.loop-after.after - c.loop-after.first; first = c.loop-after.first; pos = name } in
     let more : 1 < s.leaves = c.loop-after-test.true in
     let many = count_of lines c.args.self.now.delimiters in
@@ -105,7 +171,8 @@ overflow_add-at c =
     let ds = delimiter_bits lines c.args.self.now.delimiters in
     let keys = c.requires.built.keys in
     let x = bits_of c.args.view.now in
-    let (name, h) = c.loop-after.invariant.stands keys in
+    let name = c.loop-after.name in
+    let h = c.loop-after.invariant.stands keys in
     let s : Stand = record { node = c.loop-after.at; leaves = c.loop-after.after - c.loop-after.first; first = c.loop-after.first; pos = name } in
     let more : 1 < s.leaves = c.loop-after-test.true in
     let many = count_of lines c.args.self.now.delimiters in
@@ -115,11 +182,10 @@ overflow_add-at c =
     let numbers = c.deref.ensures.value ∙ ap (λ (t : Contents). t.delimiters) c.self.view_is in
     let d_is : bits_of c.view_of-delimiter.result ≡ get_or ds c.loop-after.first [] =
     c.view_of-delimiter.ensures ∙ ap (λ (ns : List ℕ). get_or (delimiter_bits lines ns) c.loop-after.first []) numbers in
-    let goes = c.if-not-goes_on.ensures in
-    let same = ap (λ (d : Bits). length (common_prefix d x)) d_is in
-    let (next, stands) = walk_right ds keys x s h more c.node-node.result.extent c.node-node.result.first c.node-node.result.middle c.node-node.result.after node (omega arith) goes.0 (omega arith) (sym c.bit.ensures ∙ c.if-bit.true) in
+    let goes = c.if-not-goes_on.ensures.proper in
+    let stands = walk_right ds keys x s h more c.node-node.result.extent c.node-node.result.first c.node-node.result.middle c.node-node.result.after node (omega arith) goes.0 (goes.1 ∙ ap (take c.node-node.result.extent) d_is) (sym c.bit.ensures ∙ c.if-bit.true) in
     let place = stands.node in
-    let few = count_by-le-length (λ (f : Bits). is_below f (take next x)) (extents_of ds) in
+    let few = count_by-le-length (λ (f : Bits). is_below f (take (c.node-node.result.extent + 1) x)) (extents_of ds) in
     let all = ap length c.requires.built.nodes ∙ length-map (extents_of ds) (node_in ds) in
     let view = ap (λ (t : Contents). length t.nodes) c.self.view_is in
     let small = c.self.invariant.few in
@@ -131,7 +197,8 @@ overflow_add-at-else-bit c =
     let ds = delimiter_bits lines c.args.self.now.delimiters in
     let keys = c.requires.built.keys in
     let x = bits_of c.args.view.now in
-    let (name, h) = c.loop-after.invariant.stands keys in
+    let name = c.loop-after.name in
+    let h = c.loop-after.invariant.stands keys in
     let s : Stand = record { node = c.loop-after.at; leaves = c.loop-after.after - c.loop-after.first; first = c.loop-after.first; pos = name } in
     let here = node_inside ds keys x s h c.loop-after-test.true in
     let all = ap length c.requires.built.nodes ∙ length-map (extents_of ds) (node_in ds) in
@@ -145,7 +212,8 @@ loop-after-smaller-then-bit c =
     let ds = delimiter_bits lines c.args.self.now.delimiters in
     let keys = c.requires.built.keys in
     let x = bits_of c.args.view.now in
-    let (name, h) = c.loop-after.invariant.stands keys in
+    let name = c.loop-after.name in
+    let h = c.loop-after.invariant.stands keys in
     let s : Stand = record { node = c.loop-after.at; leaves = c.loop-after.after - c.loop-after.first; first = c.loop-after.first; pos = name } in
     let more : 1 < s.leaves = c.loop-after-test.true in
     let many = count_of lines c.args.self.now.delimiters in
@@ -165,7 +233,8 @@ loop-after-smaller c =
     let ds = delimiter_bits lines c.args.self.now.delimiters in
     let keys = c.requires.built.keys in
     let x = bits_of c.args.view.now in
-    let (name, h) = c.loop-after.invariant.stands keys in
+    let name = c.loop-after.name in
+    let h = c.loop-after.invariant.stands keys in
     let s : Stand = record { node = c.loop-after.at; leaves = c.loop-after.after - c.loop-after.first; first = c.loop-after.first; pos = name } in
     let more : 1 < s.leaves = c.loop-after-test.true in
     let many = count_of lines c.args.self.now.delimiters in
@@ -185,7 +254,8 @@ loop-after-preserved-then-bit c =
     let ds = delimiter_bits lines c.args.self.now.delimiters in
     let keys = c.requires.built.keys in
     let x = bits_of c.args.view.now in
-    let (name, h) = c.loop-after.invariant.stands keys in
+    let name = c.loop-after.name in
+    let h = c.loop-after.invariant.stands keys in
     let s : Stand = record { node = c.loop-after.at; leaves = c.loop-after.after - c.loop-after.first; first = c.loop-after.first; pos = name } in
     let more : 1 < s.leaves = c.loop-after-test.true in
     let many = count_of lines c.args.self.now.delimiters in
@@ -201,17 +271,16 @@ loop-after-preserved-then-bit c =
       ordered = omega arith;
       inside = omega arith;
       stands = λ keys'.
-          let (name', h') = c.loop-after.invariant.stands keys' in
-          let s' : Stand = record { node = c.loop-after.at; leaves = c.loop-after.after - c.loop-after.first; first = c.loop-after.first; pos = name' } in
+          let h' = c.loop-after.invariant.stands keys' in
+          let s' : Stand = record { node = c.loop-after.at; leaves = c.loop-after.after - c.loop-after.first; first = c.loop-after.first; pos = c.loop-after.name } in
           let node' = found ds keys' x s' h' more c.args.self.now.nodes c.requires.built.nodes (node_of c.node-node.result) c.node-node.ensures in
           let numbers = c.deref.ensures.value ∙ ap (λ (t : Contents). t.delimiters) c.self.view_is in
           let d_is : bits_of c.view_of-delimiter.result ≡ get_or ds c.loop-after.first [] =
           c.view_of-delimiter.ensures ∙ ap (λ (ns : List ℕ). get_or (delimiter_bits lines ns) c.loop-after.first []) numbers in
-          let goes = c.if-not-goes_on.ensures in
-          let same = ap (λ (d : Bits). length (common_prefix d x)) d_is in
+          let goes = c.if-not-goes_on.ensures.proper in
           let e1 : c.node-node.result.after - c.node-node.result.middle ≡ c.loop-after.after - c.node-node.result.middle = omega arith in
-          subst (λ n. Walks ds keys' x (c.loop-after.at + (c.node-node.result.middle - c.node-node.result.first)) n c.node-node.result.middle) e1
-          (walk_right ds keys' x s' h' more c.node-node.result.extent c.node-node.result.first c.node-node.result.middle c.node-node.result.after node' (omega arith) goes.0 (omega arith) (sym c.bit.ensures ∙ c.if-bit.true));
+          subst (λ n. Walks ds keys' x (c.loop-after.at + (c.node-node.result.middle - c.node-node.result.first)) n c.node-node.result.middle (c.node-node.result.extent + 1)) e1
+          (walk_right ds keys' x s' h' more c.node-node.result.extent c.node-node.result.first c.node-node.result.middle c.node-node.result.after node' (omega arith) goes.0 (goes.1 ∙ ap (take c.node-node.result.extent) d_is) (sym c.bit.ensures ∙ c.if-bit.true));
     }
 
 pub loop-after-preserved : goal.loop-after-preserved
@@ -220,7 +289,8 @@ loop-after-preserved c =
     let ds = delimiter_bits lines c.args.self.now.delimiters in
     let keys = c.requires.built.keys in
     let x = bits_of c.args.view.now in
-    let (name, h) = c.loop-after.invariant.stands keys in
+    let name = c.loop-after.name in
+    let h = c.loop-after.invariant.stands keys in
     let s : Stand = record { node = c.loop-after.at; leaves = c.loop-after.after - c.loop-after.first; first = c.loop-after.first; pos = name } in
     let more : 1 < s.leaves = c.loop-after-test.true in
     let many = count_of lines c.args.self.now.delimiters in
@@ -236,17 +306,16 @@ loop-after-preserved c =
       ordered = omega arith;
       inside = omega arith;
       stands = λ keys'.
-          let (name', h') = c.loop-after.invariant.stands keys' in
-          let s' : Stand = record { node = c.loop-after.at; leaves = c.loop-after.after - c.loop-after.first; first = c.loop-after.first; pos = name' } in
+          let h' = c.loop-after.invariant.stands keys' in
+          let s' : Stand = record { node = c.loop-after.at; leaves = c.loop-after.after - c.loop-after.first; first = c.loop-after.first; pos = c.loop-after.name } in
           let node' = found ds keys' x s' h' more c.args.self.now.nodes c.requires.built.nodes (node_of c.node-node.result) c.node-node.ensures in
           let numbers = c.deref.ensures.value ∙ ap (λ (t : Contents). t.delimiters) c.self.view_is in
           let d_is : bits_of c.view_of-delimiter.result ≡ get_or ds c.loop-after.first [] =
           c.view_of-delimiter.ensures ∙ ap (λ (ns : List ℕ). get_or (delimiter_bits lines ns) c.loop-after.first []) numbers in
-          let goes = c.if-not-goes_on.ensures in
-          let same = ap (λ (d : Bits). length (common_prefix d x)) d_is in
+          let goes = c.if-not-goes_on.ensures.proper in
           let e1 : c.node-node.result.middle - c.node-node.result.first ≡ c.node-node.result.middle - c.loop-after.first = omega arith in
-          subst (λ n. Walks ds keys' x (c.loop-after.at + 1) n c.loop-after.first) e1
-          (walk_left ds keys' x s' h' more c.node-node.result.extent c.node-node.result.first c.node-node.result.middle c.node-node.result.after node' (omega arith) goes.0 (omega arith) (sym c.bit.ensures ∙ c.if-bit.false));
+          subst (λ n. Walks ds keys' x (c.loop-after.at + 1) n c.loop-after.first (c.node-node.result.extent + 1)) e1
+          (walk_left ds keys' x s' h' more c.node-node.result.extent c.node-node.result.first c.node-node.result.middle c.node-node.result.after node' (omega arith) goes.0 (goes.1 ∙ ap (take c.node-node.result.extent) d_is) (sym c.bit.ensures ∙ c.if-bit.false));
     }
 
 pub returns-clause-value : goal.returns-clause-value
@@ -255,7 +324,8 @@ returns-clause-value c =
     let ds = delimiter_bits lines c.args.self.now.delimiters in
     let keys = c.requires.built.keys in
     let x = bits_of c.args.view.now in
-    let (name, h) = c.loop-after.invariant.stands keys in
+    let name = c.loop-after.name in
+    let h = c.loop-after.invariant.stands keys in
     let s : Stand = record { node = c.loop-after.at; leaves = c.loop-after.after - c.loop-after.first; first = c.loop-after.first; pos = name } in
     let many = count_of lines c.args.self.now.delimiters in
     let inside = c.loop-after.invariant.inside in

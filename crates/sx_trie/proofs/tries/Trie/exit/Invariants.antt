@@ -9,7 +9,7 @@ abbrev pub invariant-loop-after : goal.invariant-loop-after
 invariant-loop-after l = record {
   ordered : l.first < l.after;
   inside : l.after ≤ length l.self.delimiters;
-  stands : (keys : AreKeyBits (delimiter_bits l.keys.lines l.self.delimiters)) → Walks (delimiter_bits l.keys.lines l.self.delimiters) keys (bits_of l.view) l.at (l.after - l.first) l.first;
+  stands : (keys : AreKeyBits (delimiter_bits l.keys.lines l.self.delimiters)) → Walks (delimiter_bits l.keys.lines l.self.delimiters) keys (bits_of l.view) l.at (l.after - l.first) l.first l.name;
 }
 
 abbrev pub decreases-loop-after : goal.decreases-loop-after
