@@ -1,5 +1,6 @@
 //! The files of the system, of which one at a time is in use.
-ghost use Rattle.std.specs.Prelude.{None};
+ghost use Rattle.std.specs.Prelude.{◌≡◌, ◌<◌, None, length};
+ghost use Rattle.sx_edge.specs.Shelf.{idle};
 ghost use Rattle.sux.specs.RealFiles.{use_of};
 
 use std::fs::File;
@@ -24,9 +25,6 @@ pub struct RealShelf {
 }
 
 impl RealShelf {
-    ghost use Rattle.std.specs.Prelude.{◌≡◌};
-    ghost use Rattle.sx_edge.specs.Shelf.{idle};
-
     /// A shelf that has no file in use and hasn't failed.
     pub fn new(host: HostRuntime) -> RealShelf
         ensures { use_of result.used ≡ idle }
@@ -102,6 +100,41 @@ impl Shelf for RealShelf {
 
     fn close(&mut self) -> Result<(), Failed> {
         self.used = InUse::Idle;
+        Ok(())
+    }
+}
+
+#[cfg(test)]
+mod tests {
+    use super::*;
+    use std::test::Fail;
+    use std::{env, fs};
+
+    /// Writes a file and reads it, from a shelf that has none in use.
+    fn goes_around(files: &mut RealShelf, name: &str, buf: &mut [u8]) -> Result<usize, Failed>
+        requires idle { use_of files.old.used ≡ idle }
+        requires room { 0 < length buf.old }
+    {
+        files.create(name)?;
+        let _ = files.write(b"ab")?;
+        files.close()?;
+        if !files.open_file(name)? {
+            return Err(Failed);
+        }
+        files.read(buf)
+    }
+
+    #[test]
+    fn a_file_is_written_and_read(rt: HostRuntime) -> Result<(), Fail> {
+        let path = env::temp_dir(&rt)?.join(rt.alloc(), "sux_a_file_is_written_and_read")?;
+        let mut files = RealShelf::new(rt);
+        let mut buf = [0; 8];
+        assert_eq!(rt; goes_around(&mut files, path.as_str(), &mut buf), Ok(2));
+        assert_eq!(rt; &buf[..2], b"ab".as_slice());
+        fs::remove_file(&rt, path.as_str())?;
+        let mut files = RealShelf::new(rt);
+        assert_eq!(rt; files.open_file(path.as_str()), Ok(false));
+        assert_eq!(rt; files.faults, 0);
         Ok(())
     }
 }

@@ -65,3 +65,45 @@ impl<W: Write + Drop> Sink for OutputStream<W> {
         }
     }
 }
+
+#[cfg(test)]
+mod tests {
+    use super::*;
+    use std::io;
+    use std::io::ErrorKind;
+    use std::test::Fail;
+
+    /// Fails at each call.
+    #[derive(Drop)]
+    struct Broken;
+
+    impl Read for Broken {
+        fn read(&mut self, _: &mut [u8]) -> io::Result<usize> {
+            Err(io::Error::from(ErrorKind::Other))
+        }
+    }
+
+    #[test]
+    fn bytes_pass_through(rt: HostRuntime) -> Result<(), Fail> {
+        let mut input = InputStream::new(b"ab".as_slice());
+        let mut buf = [0; 8];
+        assert_eq!(rt; input.read(&mut buf), Ok(2));
+        assert_eq!(rt; &buf[..2], b"ab".as_slice());
+        let mut out = OutputStream::new(Vec::new(rt.alloc()));
+        assert_eq!(rt; out.write(b"ab"), Ok(2));
+        assert_eq!(rt; out.stream.as_slice(), b"ab".as_slice());
+        Ok(())
+    }
+
+    #[test]
+    fn failures_are_counted(rt: HostRuntime) -> Result<(), Fail> {
+        let mut input = InputStream::new(Broken);
+        assert_eq!(rt; input.read(&mut [0]), Err(Failed));
+        assert_eq!(rt; input.faults, 1);
+        let mut none = [0u8; 0];
+        let mut out = OutputStream::new(none.as_mut_slice());
+        assert_eq!(rt; out.write(b"ab"), Err(Failed));
+        assert_eq!(rt; out.faults, 1);
+        Ok(())
+    }
+}
