@@ -1,15 +1,15 @@
 -- How reading the lines of input goes on, and what it comes to.
-use Rattle.std.proofs.Common.{◌≡◌, ◌≢◌, ℕ, zero, suc, ◌+◌, ◌-◌, ◌<◌, ◌≤◌, Bool, true, false, List, [], ◌∷◌, ◌++◌, length, refl, sym, ap, subst, ◌∙◌, arith, append_assoc, inl, inr, ◌⊎◌, Option, Some, None}
+use Rattle.std.proofs.Common.{◌≡◌, ℕ, ◌<◌, ◌≤◌, Bool, true, false, List, [], ◌∷◌, ◌++◌, length, refl, sym, ap, subst, ◌∙◌, arith, append_assoc, inl, inr, ◌⊎◌, Option, Some, None}
 use Rattle.std.specs.Prelude.{IfSome}
-use Rattle.std.specs.Io.KnownBytes.{Consumes, IsAtEnd, Keeps}
+use Rattle.std.specs.Io.KnownBytes.{Consumes, IsAtEnd}
 use Rattle.std.specs.List.{AllByRecursion}
-use Rattle.std.proofs.KnownBytes.{Consumes-trans, Consumes-kept, Consumes-nil}
+use Rattle.std.proofs.KnownBytes.{Consumes-trans, Consumes-nil}
 use Rattle.std.proofs.lemmas.List.{length-append}
 use Rattle.sx_spec.specs.Command.{Text}
-use Rattle.sx_spec_strings.specs.Lines.{lines, complete_lines, unfinished_line}
+use Rattle.sx_spec_strings.specs.Lines.{lines}
 use Rattle.sux.specs.KeyLines.{HasNoFeed, fed}
-use Rattle.sux.specs.Progress.{Begins, BreaksBehind, Going, Over, Progress, ReadsAll, FailsBehind, StopsAt}
-use Rattle.sux.proofs.FedLines.{lines-fed, lines-last, lines-fed_all, fed-push, all_push, unfinished-fed, complete-fed, append_nothing}
+use Rattle.sux.specs.Progress.{Begins, BreaksBehind, Over, Progress, ReadsAll, FailsBehind, StopsAt}
+use Rattle.sux.proofs.FedLines.{lines-last, lines-fed_all, fed-push, all_push, unfinished-fed, complete-fed, append_nothing}
 
 pub starts : (first : Option (List ℕ)) → Progress first first [] false []
 starts first = record { state = inl (record { taken = Consumes-nil first; no_feeds = tt }); end = λ e. absurd cc }

@@ -1,17 +1,15 @@
 -- What a query promises whose dump was opened, or wasn't.
-use Rattle.std.proofs.Common.{◌≡◌, ℕ, ◌+◌, ◌*◌, ◌<◌, ◌≤◌, false, List, [], ◌∷◌, ◌++◌, length, refl, sym, ap, subst, ◌∙◌, arith, Option, Some, None}
+use Rattle.std.proofs.Common.{◌≡◌, ℕ, ◌+◌, ◌<◌, ◌≤◌, false, List, length, sym, ap, subst, Option, Some, None}
 use Rattle.std.specs.Prelude.{IfSome, IsSomeAnd, if◌then◌else◌}
-use Rattle.std.specs.Io.KnownBytes.{Keeps}
 use Rattle.sx_spec.specs.declared.Status.{Status}
-use Rattle.sx_spec.specs.declared.Status.TheVariants.{BadInput, BadDump}
+use Rattle.sx_spec.specs.declared.Status.TheVariants.{BadInput}
 use Rattle.sx_spec.specs.Command.{Text, query}
 use Rattle.sx_spec.specs.FirstPath.{first_path, first_limits, is_first_dump}
 use Rattle.sx_spec.specs.Layout.{dump_bytes}
 use Rattle.sx_spec.specs.Messages.{no_dump_text, long_query_text, many_queries_text}
-use Rattle.sx_spec.specs.Outcomes.{IsStored, dump_refusal, max_queries, QueryFault, first_query_fault}
+use Rattle.sx_spec.specs.Outcomes.{IsStored, dump_refusal}
 use Rattle.sx_spec.specs.Run.{Promise}
 use Rattle.sx_spec.specs.World.{World, Files, NoCountFell, KeepsFiles}
-use Rattle.sux.specs.declared.open.Opened.TheVariants.{Dump, NoFile, UnknownForm}
 use Rattle.sux.specs.declared.serve.Served.{Served}
 use Rattle.sux.specs.declared.serve.Served.TheVariants.{Done, TooLong, TooMany, InputFailed, OutputFailed}
 use Rattle.sux.specs.FirstDump.{first_unknown}
@@ -20,7 +18,7 @@ use Rattle.sux.specs.Serving.{Streams, ServedTo, Ends}
 use Rattle.sux.specs.Telling.{Tells}
 use Rattle.sux.proofs.FirstDumps.{first_passes, first_accepted}
 use Rattle.sux.proofs.FirstFaults.{long_query_is, many_queries_is}
-use Rattle.sux.proofs.Queries.{query_done, input_failed, answers_failed, line_refused, dump_refused}
+use Rattle.sux.proofs.Queries.{query_done, input_failed, answers_failed, line_refused}
 
 -- the file that was opened is stored
 pub opened_stored : (name : Text) (before : World) (keys : ℕ) (words : List ℕ) → AreDumpWords keys words → IfSome before.files (λ fs. fs name ≡ Some (dump_bytes (dump_in keys words))) → IsStored first_path name before (dump_in keys words)

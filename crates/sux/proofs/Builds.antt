@@ -1,28 +1,26 @@
 -- What each end of `build` promises.
-use Rattle.std.proofs.Common.{◌≡◌, ◌≢◌, ℕ, ◌≤◌, List, [], ◌∷◌, ◌++◌, length, refl, sym, ap, subst, ◌∙◌, inl, inr, ◌⊎◌, Option, Some, None, append-nil}
-use Rattle.std.specs.Prelude.{IfSome, IsSomeAnd}
-use Rattle.std.specs.Io.KnownBytes.{Keeps, Appends, Consumes, IsAtEnd}
+use Rattle.std.proofs.Common.{◌≡◌, ℕ, List, [], ◌∷◌, ◌++◌, length, refl, sym, ap, subst, ◌∙◌, inl, inr, Option, Some, None, append-nil}
+use Rattle.std.specs.Prelude.{IfSome}
+use Rattle.std.specs.Io.KnownBytes.{Keeps, Appends}
 use Rattle.std.proofs.lemmas.List.FromFn.{length-range_with_len}
 use Rattle.sx_spec_strings.specs.Bits.{IsPrefix}
 use Rattle.sx_spec_strings.specs.Lines.{lines}
-use Rattle.sx_spec_kinds.specs.declared.Kind.TheVariants.{Func}
-use Rattle.sx_spec.specs.declared.Method.TheVariants.{Mwhc}
 use Rattle.sx_spec.specs.declared.Status.{Status}
 use Rattle.sx_spec.specs.declared.Status.TheVariants.{Done, BadInput, SeedsFailed, Fault, Memory}
-use Rattle.sx_spec.specs.Command.{Text, Task, BuildTask, build, query, default_plan}
+use Rattle.sx_spec.specs.Command.{Text, Task, BuildTask, build}
 use Rattle.sx_spec.specs.FirstPath.{first_path, first_limits, first_key_text}
-use Rattle.sx_spec.specs.Keys.{KeyFault, first_key_fault, AreKeys}
-use Rattle.sx_spec.specs.Layout.{Dump, dump_bytes, Passes}
-use Rattle.sx_spec.specs.Messages.{Place, at_input, at_dump, at_output, at_error, memory_text, built_line, no_seed_text}
-use Rattle.sx_spec.specs.Outcomes.{Profile, IsDue, IsGiven, InputHas, IsBuildDone, IsKeyRefused, IsSeedsFailed}
-use Rattle.sx_spec.specs.Run.{Promise, Disturbed, QueryReads, QueryAfterFault, KeepsUnused, BeginsDue, FilesAfterFault}
+use Rattle.sx_spec.specs.Keys.{KeyFault, AreKeys}
+use Rattle.sx_spec.specs.Layout.{dump_bytes}
+use Rattle.sx_spec.specs.Messages.{at_input, at_dump, at_output, memory_text, built_line, no_seed_text}
+use Rattle.sx_spec.specs.Outcomes.{IsGiven, IsBuildDone}
+use Rattle.sx_spec.specs.Run.{Promise, FilesAfterFault}
 use Rattle.sx_spec.specs.Values.{plain_values}
-use Rattle.sx_spec.specs.World.{World, Outcome, Happens, NoCountFell, CountRose, KeepsFiles, SetsFile, Reads, OnlyRose, untouched, partly, to_end, the_shelf, the_input, the_out, the_err, Files}
-use Rattle.sux.specs.FirstBuild.{first_task, first_parts, IsReady, SeedFails, RefusesLine}
+use Rattle.sx_spec.specs.World.{World, Outcome, NoCountFell, CountRose, KeepsFiles, SetsFile, partly, to_end, the_shelf, the_input, the_out}
+use Rattle.sux.specs.FirstBuild.{first_task, IsReady, SeedFails, RefusesLine}
 use Rattle.sux.specs.Progress.{ReadsAll, FailsBehind}
 use Rattle.sux.specs.Telling.{Tells}
 use Rattle.sux.specs.Writing.{SetsPart}
-use Rattle.sux.proofs.Endings.{by_message, by_memory_message, kept_appends, same_files}
+use Rattle.sux.proofs.Endings.{by_message, by_memory_message, kept_appends}
 use Rattle.sux.proofs.Promises.{by_outcome, by_fault}
 
 -- the lines that were read to the end are those of input

@@ -1,14 +1,12 @@
 -- An outcome that is due agrees with what the seeds decide.
-use Rattle.std.proofs.Common.{◌≡◌, ◌≢◌, ℕ, zero, suc, ◌<◌, List, [], ◌∷◌, ◌++◌, length, get_or, refl, sym, ap, subst, ◌∙◌, inl, inr, ◌⊎◌, arith}
-use Rattle.std.specs.Prelude.{IsSome, Contains, slice_index_or}
+use Rattle.std.proofs.Common.{◌≡◌, ℕ, zero, suc, ◌<◌, List, [], ◌∷◌, ◌++◌, length, refl, sym, ap, subst, ◌∙◌, inl, inr, arith}
+use Rattle.std.specs.Prelude.{slice_index_or}
 use Rattle.std.specs.List.{AllByRecursion, AllZip}
-use Rattle.sx_spec_kinds.specs.declared.Kind.{Kind}
 use Rattle.sx_spec.specs.declared.Method.{Method}
-use Rattle.sx_spec.specs.declared.Status.{Status}
 use Rattle.sx_spec.specs.declared.Status.TheVariants.{Done, SeedsFailed}
-use Rattle.sx_spec.specs.Command.{Text, Task, BuildTask, usage, build, query, open_dump, show_dump, trial, default_plan, default_seeds}
-use Rattle.sx_spec.specs.Outcomes.{Profile, IsDue, IsGiven, GivesValues, IsBuildDone, IsSeedsFailed, task_parts, trial_build, trial_parts, IsTrialDone, IsTrialFailed}
-use Rattle.sx_spec.specs.Run.{TellsEnough, IsOrMemory, SeedsDecide, IsDecided}
+use Rattle.sx_spec.specs.Command.{Text, Task, BuildTask, usage, build, query, open_dump, show_dump, trial, default_plan}
+use Rattle.sx_spec.specs.Outcomes.{Profile, IsDue, IsGiven, GivesValues, task_parts, trial_build, trial_parts}
+use Rattle.sx_spec.specs.Run.{TellsEnough, SeedsDecide, IsDecided}
 use Rattle.sx_spec.specs.StaticFunction.{Part, SeedFailure, IsSeedFailure, IsFirstWorkingSeed, SeedWorks}
 use Rattle.sx_spec.specs.World.{World, Outcome}
 use Rattle.sx_spec.proofs.Due.{keys_are, valid_or_refused, one_value, given_or_refused}

@@ -1,17 +1,15 @@
 -- The ends of a run that a message on err goes with.
-use Rattle.std.proofs.Common.{◌≡◌, ◌≢◌, ℕ, ◌≤◌, List, [], ◌∷◌, ◌++◌, length, refl, sym, ap, subst, ◌∙◌, inl, inr, ◌⊎◌, Option, Some, None, append-nil}
+use Rattle.std.proofs.Common.{◌≡◌, ◌≢◌, ℕ, List, [], ◌++◌, refl, sym, subst, ◌∙◌, inl, inr, ◌⊎◌, Option, Some, None, append-nil}
 use Rattle.std.specs.Io.KnownBytes.{Keeps, Appends}
-use Rattle.std.proofs.KnownBytes.{Keeps-refl, Appends-nil}
 use Rattle.sx_spec_strings.specs.Bits.{IsPrefix}
 use Rattle.sx_spec.specs.declared.Status.{Status}
-use Rattle.sx_spec.specs.declared.Status.TheVariants.{Done, Fault, Memory}
-use Rattle.sx_spec.specs.Causes.{Rose}
-use Rattle.sx_spec.specs.Command.{Text, Task, BuildTask, build, query}
-use Rattle.sx_spec.specs.Messages.{Place, at_output, at_error, memory_text}
+use Rattle.sx_spec.specs.declared.Status.TheVariants.{Fault, Memory}
+use Rattle.sx_spec.specs.Command.{Text, Task, query}
+use Rattle.sx_spec.specs.Messages.{at_output, at_error, memory_text}
 use Rattle.sx_spec.specs.Outcomes.{Profile, IsDue}
-use Rattle.sx_spec.specs.Run.{Promise, OutOfMemory, Disturbed, QueryReads, QueryAfterFault, NothingOrDue, KeepsUnused, BeginsDue}
-use Rattle.sx_spec.specs.World.{World, Outcome, Happens, NoCountFell, CountRose, KeepsFiles, ChangesFiles, Reads, OnlyRose, the_err, the_out, Object, Files}
-use Rattle.sux.specs.Telling.{IsTold, IsCutOff, Tells}
+use Rattle.sx_spec.specs.Run.{Promise, QueryReads, QueryAfterFault, KeepsUnused, BeginsDue}
+use Rattle.sx_spec.specs.World.{World, Outcome, NoCountFell, CountRose, KeepsFiles, ChangesFiles, Reads, the_err, Files}
+use Rattle.sux.specs.Telling.{Tells}
 use Rattle.sux.proofs.Promises.{by_outcome, by_memory, by_fault}
 
 -- nothing more

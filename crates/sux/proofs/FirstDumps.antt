@@ -1,34 +1,32 @@
 -- Dumps of one chunk of whole words: their words, that they pass every check, and that they are built.
-use Rattle.std.proofs.Common.{◌≡◌, ◌≢◌, ℕ, zero, suc, ◌+◌, ◌-◌, ◌*◌, ◌/◌, ◌%◌, ◌^◌, ◌<◌, ◌≤◌, Bool, true, false, List, [], ◌∷◌, ◌++◌, length, take, drop, refl, sym, ap, subst, ◌∙◌, arith, lit<, get_or, Option, Some, None}
-use Rattle.std.specs.Prelude.{◌==◌, ◌&&◌, nat_le, slice_index, map, zip, IfSome, codes, if◌then◌else◌}
+use Rattle.std.proofs.Common.{◌≡◌, ℕ, zero, suc, ◌+◌, ◌*◌, ◌^◌, ◌<◌, ◌≤◌, Bool, true, false, List, [], ◌∷◌, ◌++◌, length, take, drop, refl, sym, ap, subst, ◌∙◌, arith, lit<, get_or, Some, None}
+use Rattle.std.specs.Prelude.{◌==◌, nat_le, slice_index, map, zip, if◌then◌else◌}
 use Rattle.std.proofs.lemmas.Slice.Eq.{bytes_eq-Decides}
-use Rattle.sx_spec.specs.Messages.{message}
 use Rattle.std.specs.List.{AllByRecursion, AllZip, range_with_len}
 use Rattle.std.specs.Int.{div_ceil}
 use Rattle.std.specs.Str.{bytes_eq}
 use Rattle.std.proofs.lemmas.Bool.{and_parts, le-leb, leb-true, eqb-true}
 use Rattle.std.proofs.lemmas.List.FromFn.{length-range_with_len}
-use Rattle.std.proofs.lemmas.List.{length-append, length-drop, length-map, take-append-drop}
+use Rattle.std.proofs.lemmas.List.{length-drop, length-map, take-append-drop}
 use Rattle.std.proofs.Math.Seq.{take-append_seam}
-use Rattle.sx_spec.specs.declared.Method.{Method}
-use Rattle.sx_spec.specs.declared.Method.TheVariants.{Mwhc, Gov3}
+use Rattle.sx_spec.specs.declared.Method.TheVariants.{Mwhc}
 use Rattle.sx_spec.specs.declared.Signature.{Signature}
 use Rattle.sx_spec_kinds.specs.declared.Kind.TheVariants.{Func}
 use Rattle.sx_spec_strings.specs.Bits.{Bits, key_bits}
 use Rattle.sx_spec_strings.specs.First.{least_from}
-use Rattle.sx_spec_strings.specs.Numbers.{number_from, lowest_digits, binary_digits}
-use Rattle.sx_spec.specs.Built.{IsBuilt, CellsFit}
+use Rattle.sx_spec_strings.specs.Numbers.{binary_digits}
+use Rattle.sx_spec.specs.Built.{IsBuilt}
 use Rattle.sx_spec.specs.Chunks.{chunk_size, chunk_bits, chunk_count, segment}
 use Rattle.sx_spec.specs.Command.{Text, default_plan}
 use Rattle.sx_spec.specs.Fields.{words_for, packed}
 use Rattle.sx_spec.specs.FirstPath.{first_size, first_front, is_first_dump, first_dump_fault, first_limits}
 use Rattle.sx_spec.specs.Keys.{AreKeys}
-use Rattle.sx_spec.specs.Laws.{func_dump, AreBytes}
-use Rattle.sx_spec.specs.Layout.{magic, Dump, layout, dump_bytes, Passes, words_bytes, bytes_words, u32_max}
-use Rattle.sx_spec.specs.Parts.{parts_of, values_part}
+use Rattle.sx_spec.specs.Laws.{AreBytes}
+use Rattle.sx_spec.specs.Layout.{magic, layout, dump_bytes, Passes, words_bytes, bytes_words}
+use Rattle.sx_spec.specs.Parts.{values_part}
 use Rattle.sx_spec.specs.Reply.{AnswersMembers}
 use Rattle.sx_spec.specs.Signature.{signature}
-use Rattle.sx_spec.specs.StaticFunction.{Entry, Function, Chunk, Part, IsBuildable, IsBuiltFunction, IsBuiltChunk, SeedWorks, SomeTryWorks, signatures, part_entries, cell_count}
+use Rattle.sx_spec.specs.StaticFunction.{Entry, Chunk, IsBuildable, IsBuiltFunction, IsBuiltChunk, SeedWorks, SomeTryWorks, part_entries, cell_count}
 use Rattle.sx_spec.specs.Values.{plain_values}
 use Rattle.sx_spec.proofs.Digits.{digits_of_number}
 use Rattle.sx_spec.proofs.FuncDumps.{func_dumps_pass}

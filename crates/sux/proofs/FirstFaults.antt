@@ -1,16 +1,15 @@
 -- The first faulty line of keys and of queries, where the lines before it are known to be fine.
-use Rattle.std.proofs.Common.{◌≡◌, ◌≢◌, ℕ, zero, suc, ◌+◌, ◌-◌, ◌^◌, ◌<◌, ◌≤◌, true, false, List, [], ◌∷◌, ◌++◌, length, take, drop, refl, sym, ap, subst, ◌∙◌, arith, Option, Some, None}
-use Rattle.std.specs.Prelude.{nat_lt, option_map, slice_get, if◌then◌else◌}
+use Rattle.std.proofs.Common.{◌≡◌, ℕ, suc, ◌+◌, ◌-◌, ◌<◌, ◌≤◌, true, false, List, [], ◌∷◌, ◌++◌, length, take, refl, ap, ◌∙◌, arith, Some, None}
+use Rattle.std.specs.Prelude.{nat_lt, option_map}
 use Rattle.std.specs.List.{filter_map, enumerate_from, cons_option, AllByRecursion}
-use Rattle.std.specs.Option.{option_map_or}
 use Rattle.std.proofs.lemmas.List.{take-append-le}
 use Rattle.std.proofs.Math.Seq.{take-append_seam}
 use Rattle.std.proofs.lemmas.Bool.{lt-ltb, le-ltb}
 use Rattle.std.proofs.lemmas.List.Elements.{filter_map-append}
 use Rattle.sx_spec.specs.declared.Limits.{Limits}
-use Rattle.sx_spec_strings.specs.First.{first, first_holding}
+use Rattle.sx_spec_strings.specs.First.{first}
 use Rattle.sx_spec.specs.Command.{Text}
-use Rattle.sx_spec.specs.Keys.{Reason, too_long, KeyFault, refusal, fault_at, key_faults, first_key_fault, AreKeys}
+use Rattle.sx_spec.specs.Keys.{Reason, too_long, refusal, fault_at, key_faults, first_key_fault, AreKeys}
 use Rattle.sx_spec.specs.Messages.{long_query_text, many_queries_text}
 use Rattle.sx_spec.specs.Outcomes.{QueryFault, query_refusal, first_query_fault, served, max_queries}
 

@@ -1,5 +1,5 @@
 -- The number in eight bytes, as it is read and as it is defined.
-use Rattle.std.proofs.Common.{◌≡◌, ℕ, zero, suc, ◌+◌, ◌*◌, ◌<◌, ◌≤◌, List, [], ◌∷◌, ◌++◌, length, take, get_or, replicate, refl, sym, ap, ◌∙◌, arith}
+use Rattle.std.proofs.Common.{◌≡◌, ℕ, ◌<◌, List, get_or, arith}
 use Rattle.std.specs.Int.{w64, from_le_bytes}
 use Rattle.byteorder.specs.Endian.{little_number}
 

@@ -1,21 +1,19 @@
 -- What a file holds, by what was read of it.
-use Rattle.std.proofs.Common.{◌≡◌, ◌<◌, ◌≤◌, ◌+◌, ◌*◌, ◌^◌, ℕ, zero, suc, Bool, true, false, List, [], ◌∷◌, ◌++◌, length, take, sym, ap, subst, ◌∙◌, arith, refl, Option, Some, None, inl, inr, ◌⊎◌}
-use Rattle.std.specs.Prelude.{IsSome, IfSome, IsSomeAnd, ◌==◌, nat_le, ◌&&◌, slice_index}
+use Rattle.std.proofs.Common.{◌≡◌, ◌<◌, ◌≤◌, ◌+◌, ◌*◌, ℕ, zero, suc, Bool, true, false, List, [], ◌∷◌, length, take, ap, subst, ◌∙◌, arith, refl, Option, Some, None, inl, inr, ◌⊎◌}
+use Rattle.std.specs.Prelude.{IsSome, ◌==◌, nat_le, slice_index}
 use Rattle.std.proofs.lemmas.Bool.{cases_lt, and_parts, leb-true, eqb-true}
 use Rattle.std.proofs.lemmas.List.{length-take-le, length-take}
 use Rattle.std.proofs.lemmas.Slice.Eq.{bytes_eq-Decides}
-use Rattle.sx_spec.specs.declared.Method.TheVariants.{Mwhc}
-use Rattle.sx_spec.specs.Chunks.{segment}
 use Rattle.sx_spec.specs.Command.{Text}
 use Rattle.sx_spec.specs.FirstPath.{is_first_dump, first_size, first_front}
-use Rattle.sx_spec.specs.Layout.{bytes_words, dump_bytes}
+use Rattle.sx_spec.specs.Layout.{bytes_words}
 use Rattle.sx_spec.specs.World.{Files}
 use Rattle.sx_edge.specs.Shelf.{Opens, ReadsFile}
 use Rattle.sux.specs.declared.open.Opened.{Opened}
 use Rattle.sux.specs.declared.open.Opened.TheVariants.{Dump, NoFile, UnknownForm}
-use Rattle.sux.specs.FirstDump.{first_dump, is_first}
-use Rattle.sux.specs.Opening.{AreDumpWords, cells_in, IsDecoded, IsOpened}
-use Rattle.sux.proofs.FirstDumps.{first_length, segment_small, bytes_length}
+use Rattle.sux.specs.FirstDump.{is_first}
+use Rattle.sux.specs.Opening.{cells_in, IsDecoded, IsOpened}
+use Rattle.sux.proofs.FirstDumps.{segment_small, bytes_length}
 
 -- a file of more bytes than the largest dump is none
 too_large : (bytes : List ℕ) → 10216 < length bytes → is_first_dump bytes ≡ false

@@ -1,5 +1,5 @@
 -- From a function that is built to a dump that is ready.
-use Rattle.std.proofs.Common.{◌≡◌, ◌≢◌, ℕ, zero, suc, ◌+◌, ◌-◌, ◌*◌, ◌/◌, ◌%◌, ◌^◌, ◌<◌, ◌≤◌, Bool, true, false, List, [], ◌∷◌, ◌++◌, length, take, drop, map, refl, sym, ap, subst, ◌∙◌, arith, Option, Some, None, append_assoc, add-one}
+use Rattle.std.proofs.Common.{◌≡◌, ℕ, zero, suc, ◌+◌, ◌*◌, ◌^◌, ◌<◌, ◌≤◌, List, [], ◌∷◌, ◌++◌, length, take, map, refl, sym, ap, subst, ◌∙◌, arith, Some, None, add-one}
 use Rattle.std.specs.Prelude.{slice_get, codes, decimal, zip}
 use Rattle.std.specs.List.{range_with_len}
 use Rattle.sx_spec.specs.declared.Signature.{Signature}
@@ -15,7 +15,7 @@ use Rattle.sx_spec.specs.FirstPath.{first_limits, first_size, first_front}
 use Rattle.sx_spec.specs.Keys.{AreKeys}
 use Rattle.sx_spec.specs.Laws.{AreBytes}
 use Rattle.sx_spec.specs.Layout.{layout, words_bytes}
-use Rattle.sx_spec.specs.StaticFunction.{Entry, Chunk, Function, Cause, IsCause, chunk_segment, IsBuiltChunk, IsBuiltFunction}
+use Rattle.sx_spec.specs.StaticFunction.{Entry, Chunk, Cause, IsCause, chunk_segment, IsBuiltChunk, IsBuiltFunction}
 use Rattle.sx_spec.specs.Values.{plain_values}
 use Rattle.sx_spec.proofs.Signatures.{signature_small}
 use Rattle.sx_static.specs.declared.FuncBuf.{FuncBuf}

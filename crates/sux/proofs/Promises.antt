@@ -1,16 +1,12 @@
 -- From what a run did to all that it promises.
-use Rattle.std.proofs.Common.{◌≡◌, ◌≢◌, ℕ, ◌≤◌, List, [], ◌∷◌, ◌++◌, length, refl, sym, ap, subst, ◌∙◌, inl, inr, ◌⊎◌, Option, Some, None}
-use Rattle.std.specs.Prelude.{IsSome, Contains, ⊤}
-use Rattle.std.specs.Io.KnownBytes.{Keeps, Appends}
-use Rattle.std.specs.List.{AllByRecursion, AllZip}
+use Rattle.std.proofs.Common.{◌≡◌, ◌≢◌, ℕ, refl, sym, subst, ◌∙◌, inl, inr}
 use Rattle.sx_spec.specs.declared.Status.{Status}
-use Rattle.sx_spec.specs.declared.Status.TheVariants.{Done, SeedsFailed, Fault, Memory}
-use Rattle.sx_spec.specs.Command.{Text, Task, BuildTask, usage, build, query, open_dump, show_dump, trial}
-use Rattle.sx_spec.specs.Messages.{Place, at_input, at_values, at_dump, at_output, at_error}
-use Rattle.sx_spec.specs.Outcomes.{Profile, IsDue, IsGiven, IsBuildDone, IsSeedsFailed, task_parts}
-use Rattle.sx_spec.specs.Run.{Promise, Ended, TellsEnough, IsOrMemory, SeedsDecide, IsDecided, OutOfMemory, Disturbed, QueryReads, KeepsUnused}
-use Rattle.sx_spec.specs.StaticFunction.{SeedWorks}
-use Rattle.sx_spec.specs.World.{World, Outcome, Happens, NoCountFell, IsQuiet}
+use Rattle.sx_spec.specs.declared.Status.TheVariants.{Fault, Memory}
+use Rattle.sx_spec.specs.Command.{Task, build, trial}
+use Rattle.sx_spec.specs.Messages.{at_output}
+use Rattle.sx_spec.specs.Outcomes.{Profile, IsDue}
+use Rattle.sx_spec.specs.Run.{Promise, IsDecided, OutOfMemory, Disturbed, QueryReads, KeepsUnused}
+use Rattle.sx_spec.specs.World.{World, Outcome, Happens, NoCountFell}
 use Rattle.sx_spec.proofs.Due.{one_status_is_due}
 use Rattle.sux.proofs.Decided.{decided}
 

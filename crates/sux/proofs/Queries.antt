@@ -1,8 +1,8 @@
 -- What each end of `query` promises.
-use Rattle.std.proofs.Common.{◌≡◌, ◌≢◌, ℕ, zero, suc, ◌+◌, ◌-◌, ◌*◌, ◌<◌, ◌≤◌, Bool, true, false, List, [], ◌∷◌, ◌++◌, length, take, drop, refl, sym, ap, subst, ◌∙◌, arith, inl, inr, ◌⊎◌, Option, Some, None, append-nil, append_assoc}
-use Rattle.std.specs.Prelude.{IfSome, IsSomeAnd, sum_by, nat_lt, option_map}
-use Rattle.std.specs.Io.KnownBytes.{Keeps, Appends, Consumes, IsAtEnd}
-use Rattle.std.specs.List.{AllByRecursion, filter_map, enumerate_from, cons_option, flat_map}
+use Rattle.std.proofs.Common.{◌≡◌, ℕ, ◌+◌, ◌-◌, ◌*◌, ◌≤◌, List, [], ◌∷◌, ◌++◌, length, take, refl, sym, ap, subst, ◌∙◌, arith, inl, inr, Option, Some, None, append-nil, append_assoc}
+use Rattle.std.specs.Prelude.{IfSome, nat_lt, option_map}
+use Rattle.std.specs.Io.KnownBytes.{Keeps, Appends, Consumes}
+use Rattle.std.specs.List.{filter_map, enumerate_from, cons_option}
 use Rattle.std.specs.Option.{option_map_or}
 use Rattle.std.proofs.lemmas.Grind.{flat_map-append}
 use Rattle.std.proofs.lemmas.List.Elements.{filter_map-append}
@@ -23,9 +23,9 @@ use Rattle.sx_spec.specs.declared.Status.TheVariants.{Done, BadInput, BadDump, F
 use Rattle.sx_spec.specs.Command.{Task, query}
 use Rattle.sx_spec.specs.FirstPath.{first_path}
 use Rattle.sx_spec.specs.Messages.{Place, at_input, at_dump, at_output, at_error, memory_text}
-use Rattle.sx_spec.specs.Outcomes.{IsDue, IsStored, InputHas, IsQueryDone, IsQueryRefused, dump_refusal}
-use Rattle.sx_spec.specs.Run.{Promise, QueryReads, ReadsWithin, RepliesToTaken, QueryAfterFault, NothingAsked, BeginsDue, taken_lines}
-use Rattle.sx_spec.specs.World.{World, Outcome, NoCountFell, CountRose, KeepsFiles, untouched, partly, to_end, the_shelf, the_input, the_out, the_err}
+use Rattle.sx_spec.specs.Outcomes.{IsDue, IsStored, InputHas, dump_refusal}
+use Rattle.sx_spec.specs.Run.{Promise, ReadsWithin, QueryAfterFault, BeginsDue, taken_lines}
+use Rattle.sx_spec.specs.World.{World, Outcome, NoCountFell, CountRose, KeepsFiles, untouched, partly, to_end, the_shelf, the_input, the_out}
 use Rattle.sux.specs.FirstDump.{first_dump}
 use Rattle.sux.specs.Progress.{Begins, BreaksBehind, ReadsAll, FailsBehind, StopsAt}
 use Rattle.sux.specs.Served.{AreQueries, Answers}

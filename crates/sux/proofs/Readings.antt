@@ -1,12 +1,11 @@
 -- How the calls of a line reader bring the lines of input forward.
-use Rattle.std.proofs.Common.{◌≡◌, ◌≢◌, ℕ, zero, suc, ◌+◌, ◌<◌, ◌≤◌, Bool, true, false, List, [], ◌∷◌, ◌++◌, length, refl, sym, ap, subst, ◌∙◌, arith, inl, inr, ◌⊎◌, Option, Some, None}
+use Rattle.std.proofs.Common.{◌≡◌, ◌≢◌, ℕ, ◌+◌, ◌<◌, ◌≤◌, Bool, true, List, [], ◌∷◌, ◌++◌, length, refl, sym, ap, subst, ◌∙◌, arith, inl, inr, ◌⊎◌, Option, Some, None}
 use Rattle.std.specs.Prelude.{IfSome, slice_index_or}
-use Rattle.std.specs.Io.KnownBytes.{Consumes, IsAtEnd}
 use Rattle.sx_spec.specs.Command.{Text}
 use Rattle.sx_spec.specs.FirstPath.{first_limits}
 use Rattle.sx_spec.specs.Keys.{Reason, too_long, KeyFault, refusal, first_key_fault, AreKeys}
 use Rattle.sx_spec_strings.specs.Lines.{lines}
-use Rattle.sx_edge.specs.Reading.{Reading, first_line, Takes, GivesLine, GivesEnd, FailsRead, IsTooLong}
+use Rattle.sx_edge.specs.Reading.{Reading, Takes, GivesLine, GivesEnd, FailsRead, IsTooLong}
 use Rattle.sux.specs.FirstBuild.{RefusesLine}
 use Rattle.sux.specs.Progress.{Progress, ReadsAll, FailsBehind, StopsAt}
 use Rattle.sux.proofs.Advances.{line_fed, line_last, all_read, fails_behind, long_line, stops_at_last}

@@ -1,8 +1,7 @@
 -- How query lines are answered, one after the other.
-use Rattle.std.proofs.Common.{◌≡◌, ◌≢◌, ℕ, zero, suc, ◌+◌, ◌-◌, ◌*◌, ◌/◌, ◌^◌, ◌<◌, ◌≤◌, Bool, true, false, List, [], ◌∷◌, ◌++◌, length, take, drop, refl, sym, ap, subst, ◌∙◌, arith, Option, Some, None, inl, inr, ◌⊎◌, append_assoc, append-nil}
+use Rattle.std.proofs.Common.{◌≡◌, ℕ, ◌+◌, ◌*◌, ◌/◌, ◌<◌, ◌≤◌, Bool, false, List, [], ◌∷◌, ◌++◌, length, take, drop, refl, sym, ap, subst, ◌∙◌, arith, Option, Some, None, inl, inr, append_assoc, append-nil}
 use Rattle.std.specs.Prelude.{slice_index, IfSome}
 use Rattle.std.specs.Io.KnownBytes.{Appends, Consumes, IsAtEnd}
-use Rattle.std.specs.List.{AllByRecursion}
 use Rattle.std.proofs.KnownBytes.{Appends-trans, Appends-nil}
 use Rattle.std.proofs.lemmas.List.{length-append}
 use Rattle.sx_spec_strings.specs.Lines.{lines}
@@ -10,7 +9,6 @@ use Rattle.sx_spec.specs.declared.Method.TheVariants.{Mwhc}
 use Rattle.sx_spec.specs.declared.Signature.{Signature}
 use Rattle.sx_spec.specs.Chunks.{segment}
 use Rattle.sx_spec.specs.Command.{Text}
-use Rattle.sx_spec.specs.FirstPath.{first_front}
 use Rattle.sx_spec.specs.Layout.{Dump}
 use Rattle.sx_spec.specs.Outcomes.{max_queries}
 use Rattle.sx_spec.specs.Reply.{answers, reply}
@@ -23,12 +21,12 @@ use Rattle.sx_edge.specs.Reading.{Reading, GivesLine, GivesEnd, FailsRead, IsToo
 use Rattle.sx_static.specs.Viewing.{cells_named, one_chunk_function}
 use Rattle.sux.specs.FirstDump.{first_function}
 use Rattle.sux.specs.Opening.{AreDumpWords, cells_in, dump_in}
-use Rattle.sux.specs.Progress.{Progress, ReadsAll, FailsBehind, BreaksBehind, StopsAt, Begins}
-use Rattle.sux.specs.Served.{AreQueries, Answers}
-use Rattle.sux.specs.Serving.{Serving, Streams, AllServed, LongLine, OneTooMany, InputBroken, OutputBroken, ServedTo, WritesHeld, IsFinished, IsUnfinished, Finishes}
+use Rattle.sux.specs.Progress.{ReadsAll, FailsBehind, BreaksBehind, StopsAt, Begins}
+use Rattle.sux.specs.Served.{Answers}
+use Rattle.sux.specs.Serving.{Serving, Streams, InputBroken, OutputBroken, ServedTo, WritesHeld, Finishes}
 use Rattle.sux.specs.declared.serve.Served.{Served}
-use Rattle.sux.specs.declared.serve.Served.TheVariants.{Done, TooLong, TooMany, InputFailed, OutputFailed}
-use Rattle.sux.proofs.Advances.{starts, breaks_behind, stops_at_last}
+use Rattle.sux.specs.declared.serve.Served.TheVariants.{Done, TooLong, TooMany}
+use Rattle.sux.proofs.Advances.{starts, stops_at_last}
 use Rattle.sux.proofs.FedLines.{all_push}
 use Rattle.sux.proofs.Queries.{answers_begin}
 use Rattle.sux.proofs.Readings.{after_line, line_short, at_end, at_fault, at_long_line}

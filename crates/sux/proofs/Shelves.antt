@@ -1,7 +1,6 @@
 -- What is known of files after several calls on a shelf.
-use Rattle.std.proofs.Common.{◌≡◌, ◌≢◌, ℕ, List, [], ◌∷◌, ◌++◌, refl, sym, ap, subst, ◌∙◌, Option, Some, None, append-nil, inl, inr, ◌⊎◌, Result, Ok, Err}
-use Rattle.std.specs.Prelude.{IsSome, IfSome, OnOk, OnErr}
-use Rattle.sx_spec_strings.specs.Bits.{IsPrefix}
+use Rattle.std.proofs.Common.{◌≡◌, ◌≢◌, ℕ, List, [], ◌++◌, refl, sym, ap, subst, ◌∙◌, Option, Some, None, append-nil, inl, inr, ◌⊎◌, Result, Ok, Err}
+use Rattle.std.specs.Prelude.{IsSome, IfSome, OnErr}
 use Rattle.sx_spec.specs.Command.{Text}
 use Rattle.sx_spec.specs.World.{Files, KeepsFiles, SetsFile}
 use Rattle.sx_edge.specs.Shelf.{AppendsFile, AppendsFilePrefix}

@@ -6,7 +6,7 @@ use Rattle.sx_spec.specs.declared.Method.TheVariants.{Mwhc}
 use Rattle.sx_spec.specs.Built.{IsBuilt}
 use Rattle.sx_spec.specs.Command.{Text, BuildTask, default_plan}
 use Rattle.sx_spec.specs.FirstPath.{first_limits}
-use Rattle.sx_spec.specs.Keys.{KeyFault, first_key_fault, AreKeys}
+use Rattle.sx_spec.specs.Keys.{KeyFault, first_key_fault}
 use Rattle.sx_spec.specs.Layout.{Dump, dump_bytes, Passes}
 use Rattle.sx_spec.specs.Messages.{built_line}
 use Rattle.sx_spec.specs.Parts.{parts_of}

@@ -1,5 +1,4 @@
 -- The task that a command of the first path is.
-use Rattle.std.specs.Prelude.{ℕ}
 use Rattle.sx_spec.specs.declared.Rule.TheVariants.{BadWords}
 use Rattle.sx_spec.specs.Command.{Task, usage, build, query}
 use Rattle.sux.specs.declared.command.Task.{Task as CommandTask}

@@ -1,5 +1,5 @@
 -- What keys come to.
-use Rattle.std.specs.Prelude.{ℕ, List}
+use Rattle.std.specs.Prelude.{List}
 use Rattle.sx_spec.specs.declared.Signature.{Signature}
 use Rattle.sx_spec.specs.Command.{Text}
 use Rattle.sx_spec.specs.Signature.{signature}

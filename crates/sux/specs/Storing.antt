@@ -1,6 +1,6 @@
 -- A dump that is written to its file, and the line on it to out.
 use Rattle.std.specs.Prelude.{◌≡◌, ◌⊎◌, ℕ, List, Option}
-use Rattle.std.specs.Io.KnownBytes.{Keeps, Appends}
+use Rattle.std.specs.Io.KnownBytes.{Appends}
 use Rattle.sx_edge.specs.Parts.{AppendsPrefix}
 use Rattle.sx_spec.specs.declared.Status.{Status}
 use Rattle.sx_spec.specs.declared.Status.TheVariants.{Done, Fault}

@@ -1,5 +1,5 @@
 -- A message on err, and the status of a run that ends with it.
-use Rattle.std.specs.Prelude.{◌≡◌, ◌≢◌, ◌⊎◌, ℕ, ◌≤◌, List, Option}
+use Rattle.std.specs.Prelude.{◌≡◌, ◌⊎◌, ℕ, List, Option}
 use Rattle.std.specs.Io.KnownBytes.{Appends}
 use Rattle.sx_edge.specs.Parts.{AppendsPrefix}
 use Rattle.sx_spec.specs.declared.Status.{Status}

@@ -1,20 +1,18 @@
-use Rattle.std.proofs.Common.{◌≡◌, ℕ, ◌≤◌, List, refl, sym, ap, subst, ◌∙◌, arith, inl, inr, ◌⊎◌, Option}
+use Rattle.std.proofs.Common.{ℕ, List, sym, subst, arith, inl, inr, ◌⊎◌}
 use Rattle.std.proofs.KnownBytes.{Keeps-refl}
-use Rattle.std.specs.Io.KnownBytes.{Keeps, Appends}
+use Rattle.std.specs.Io.KnownBytes.{Keeps}
 use Rattle.sx_spec.specs.declared.Status.{Status}
-use Rattle.sx_spec.specs.declared.Status.TheVariants.{Done, BadInput, Fault, Memory}
+use Rattle.sx_spec.specs.declared.Status.TheVariants.{BadInput, Memory}
 use Rattle.sx_spec.specs.Command.{Text, build}
 use Rattle.sx_spec.specs.FirstPath.{first_path, first_limits, first_key_text}
 use Rattle.sx_spec.specs.Keys.{KeyFault, AreKeys}
 use Rattle.sx_spec.specs.Messages.{memory_text}
 use Rattle.sx_spec.specs.Run.{Promise}
-use Rattle.sx_spec.specs.World.{World, NoCountFell, KeepsFiles, world}
-use Rattle.sux.specs.declared.prepare.Prepared.TheVariants.{Dump}
+use Rattle.sx_spec.specs.World.{World, NoCountFell, KeepsFiles}
 use Rattle.sux.specs.FirstBuild.{first_task, RefusesLine, IsReady}
 use Rattle.sux.specs.KeyLines.{fault_of}
-use Rattle.sux.specs.Preparing.{IsPrepared}
 use Rattle.sux.specs.Progress.{ReadsAll}
-use Rattle.sux.specs.Storing.{Outside, IsWritten, IsFileCut, IsLineCut, Stores}
+use Rattle.sux.specs.Storing.{Stores}
 use Rattle.sux.specs.Telling.{Tells}
 use Rattle.sux.proofs.Builds.{keys_failed, key_refused, build_memory, seed_fails, build_done, dump_failed, line_failed}
 use Rattle.sux.proofs.Endings.{same_files}

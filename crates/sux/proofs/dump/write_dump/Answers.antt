@@ -1,4 +1,3 @@
-use Rattle.std.proofs.Common.{◌≡◌, refl}
 use Rattle.sux.proofs.Shelves.{whole_set, whole_is_part, on_err}
 use Rattle.sux.proofs.dump.write_dump.Goals as goal
 

@@ -1,20 +1,20 @@
-use Rattle.std.proofs.Common.{◌≡◌, ◌≢◌, ◌≤◌, ◌++◌, ◌∷◌, [], None, Some, length, MatchResult, ℕ, ◌+◌, ◌-◌, ◌*◌, ◌<◌, arith, refl, sym, ap, subst, ◌∙◌, List, Option, rules, Result, Ok, Err}
+use Rattle.std.proofs.Common.{◌≡◌, ◌++◌, ◌∷◌, [], None, Some, length, ℕ, arith, sym, ap, subst, ◌∙◌, List, Option}
 use Rattle.std.proofs.lemmas.List.{length-append}
 use Rattle.sx_spec.specs.declared.Limits.{Limits}
 use Rattle.sx_spec.specs.Command.{Text}
-use Rattle.sx_spec.specs.Keys.{refusal, AreKeys, KeyFault, too_long}
+use Rattle.sx_spec.specs.Keys.{refusal, AreKeys}
 use Rattle.sx_spec.specs.FirstPath.{first_limits}
 use Rattle.sx_bits.specs.KeyLists.{Keys}
 use Rattle.sx_spec.proofs.KeyFiles.{faultless_lines_are_keys}
 use Rattle.sux.specs.declared.keys.KeysStop.{KeysStop}
 use Rattle.sux.specs.declared.keys.KeysStop.TheVariants.{Refused, Failed, Memory}
 use Rattle.sux.specs.FirstBuild.{RefusesLine}
-use Rattle.sux.specs.KeyReading.{ReadsKeys, StopsKeys, StopsPush, StopsFault}
+use Rattle.sux.specs.KeyReading.{StopsKeys, StopsPush}
 use Rattle.sux.specs.declared.messages.KeyReason.{KeyReason}
 use Rattle.sux.specs.KeyLines.{reason_of, fault_of}
 use Rattle.sux.specs.Progress.{Progress}
 use Rattle.sux.proofs.FirstFaults.{keys_grow}
-use Rattle.sux.proofs.Readings.{after_line, line_short, at_end, at_fault, at_long_line, long_key, pushed_key}
+use Rattle.sux.proofs.Readings.{after_line, at_end, at_fault, at_long_line, long_key, pushed_key}
 use Rattle.sux.proofs.keys.read_keys.Goals as goal
 
 pub returns-in-Ok-End-clause-keys : goal.returns-in-Ok-End-clause-keys

@@ -1,4 +1,4 @@
-use Rattle.std.proofs.Common.{◌≡◌, ℕ, ◌-◌, ◌≤◌, length, None}
+use Rattle.std.proofs.Common.{◌≡◌, ◌-◌, ◌≤◌, length, None}
 use Rattle.sx_spec.specs.FirstPath.{first_limits}
 use Rattle.sx_spec.specs.Keys.{AreKeys}
 use Rattle.sux.specs.Progress.{Progress}

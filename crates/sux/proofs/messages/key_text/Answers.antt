@@ -1,4 +1,4 @@
-use Rattle.std.proofs.Common.{◌≡◌, ℕ, ◌∷◌, [], refl, codes, decimal, IfOk, Ok, Err, ◌∙◌}
+use Rattle.std.proofs.Common.{◌≡◌, ℕ, ◌∷◌, [], refl, codes, decimal}
 use Rattle.sx_spec.specs.FirstPath.{first_key_text}
 use Rattle.sx_spec.specs.Messages.{message}
 use Rattle.sux.specs.declared.messages.KeyReason.{KeyReason}

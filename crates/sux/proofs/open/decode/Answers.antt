@@ -1,11 +1,10 @@
-use Rattle.std.proofs.Common.{◌≡◌, ◌<◌, ◌^◌, ◌*◌, ℕ, true, List, ◌++◌, length, drop, get_or, sym, ap, subst, ◌∙◌, arith, refl}
+use Rattle.std.proofs.Common.{◌≡◌, ◌<◌, ◌^◌, ℕ, true, List, length, get_or, sym, ap, subst, ◌∙◌, arith}
 use Rattle.std.specs.Prelude.{slice_index}
 use Rattle.std.proofs.lemmas.List.{get_or_read}
-use Rattle.sx_spec.specs.FirstPath.{is_first_dump}
 use Rattle.sx_spec.specs.Layout.{bytes_words, dump_bytes}
-use Rattle.sux.specs.FirstDump.{first_dump, is_first}
+use Rattle.sux.specs.FirstDump.{is_first}
 use Rattle.sux.specs.Opening.{AreDumpWords, dump_in}
-use Rattle.sux.proofs.FirstDumps.{IsFirst, first_file}
+use Rattle.sux.proofs.FirstDumps.{first_file}
 use Rattle.sux.proofs.Opens.{long_words}
 use Rattle.sux.proofs.open.decode.Goals as goal
 

@@ -1,4 +1,4 @@
-use Rattle.std.proofs.Common.{◌≡◌, ◌≤◌, ◌*◌, ◌+◌, ℕ, length, map, List, ◌++◌, ◌∷◌, [], sym, ap, subst, ◌∙◌, arith, refl}
+use Rattle.std.proofs.Common.{◌≡◌, ◌≤◌, ◌*◌, ◌+◌, ℕ, length, map, List, ◌++◌, ◌∷◌, [], sym, ap, subst, ◌∙◌, arith}
 use Rattle.std.proofs.lemmas.List.{length-map}
 use Rattle.std.proofs.lemmas.List.FromFn.{length-range_with_len}
 use Rattle.std.specs.Prelude.{zip, codes, decimal}
@@ -7,13 +7,11 @@ use Rattle.sx_spec.specs.declared.Limits.{Limits}
 use Rattle.sx_spec.specs.Command.{Text}
 use Rattle.sx_spec.specs.declared.Method.TheVariants.{Mwhc}
 use Rattle.sx_spec.specs.declared.Signature.{Signature}
-use Rattle.sx_spec.specs.FirstPath.{first_limits, first_front, first_size}
 use Rattle.sx_spec.specs.Keys.{AreKeys}
-use Rattle.sx_spec.specs.StaticFunction.{Entry, twins, stuck, IsCause}
+use Rattle.sx_spec.specs.StaticFunction.{Entry, twins, stuck}
 use Rattle.sx_spec.specs.Values.{plain_values}
-use Rattle.sx_static.specs.declared.Built.{Built}
-use Rattle.sx_static.specs.declared.Built.TheVariants.{Done, Twins, Stuck}
-use Rattle.sx_static.specs.Answer.{IsAnswer, IsDone, entries_of, witness_numbers}
+use Rattle.sx_static.specs.declared.Built.TheVariants.{Done}
+use Rattle.sx_static.specs.Answer.{IsAnswer, entries_of, witness_numbers}
 use Rattle.sux.specs.Preparing.{key_signature}
 use Rattle.sux.proofs.Prepares.{ready, refuted}
 use Rattle.sux.proofs.prepare.prepare.Goals as goal

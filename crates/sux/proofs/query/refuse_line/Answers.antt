@@ -1,4 +1,4 @@
-use Rattle.std.proofs.Common.{◌≡◌, ℕ, List, [], ◌∷◌, ◌++◌, append_assoc, append-nil, refl, sym, ap, subst, ◌∙◌, codes, decimal}
+use Rattle.std.proofs.Common.{◌≡◌, ℕ, List, [], ◌∷◌, ◌++◌, append_assoc, append-nil, sym, ap, subst, ◌∙◌, codes, decimal}
 use Rattle.sx_spec.specs.declared.Status.TheVariants.{BadInput}
 use Rattle.sx_spec.specs.Messages.{message}
 use Rattle.sux.specs.Telling.{Tells}

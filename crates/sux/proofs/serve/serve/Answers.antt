@@ -1,4 +1,4 @@
-use Rattle.std.proofs.Common.{◌≡◌, ◌+◌, ◌-◌, ◌≤◌, ◌<◌, ℕ, arith, refl, sym, ◌∙◌}
+use Rattle.std.proofs.Common.{◌-◌, arith, refl, sym, ◌∙◌}
 use Rattle.sux.proofs.Serves.{begins, part_written, line_answered, output_broken, ends_done, ends_long, ends_many, ends_broken}
 use Rattle.sux.proofs.Advances.{breaks_behind}
 use Rattle.sux.proofs.serve.serve.Goals as goal

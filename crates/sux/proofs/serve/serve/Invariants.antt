@@ -1,4 +1,4 @@
-use Rattle.std.proofs.Common.{◌≡◌, ◌+◌, ◌-◌, ◌≤◌, ℕ}
+use Rattle.std.proofs.Common.{◌-◌, ◌≤◌}
 use Rattle.sux.specs.Opening.{dump_in}
 use Rattle.sux.specs.Serving.{Serving}
 use Rattle.sux.proofs.serve.serve.Given as goal
