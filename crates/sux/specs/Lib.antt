@@ -12,3 +12,4 @@ pub mod Preparing
 pub mod KeyReading
 pub mod Served
 pub mod RealFiles
+pub mod Codes

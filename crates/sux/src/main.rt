@@ -2,6 +2,7 @@
 #![tactic(auto)]
 
 ghost use Rattle.std.specs.Prelude.{◌≡◌, ◌<◌};
+ghost use Rattle.sux.specs.Codes.{status_code};
 
 mod build;
 mod command;
@@ -34,7 +35,9 @@ use sx_spec::Status;
 use sx_steps::Steps;
 
 /// The number that a run's status is to the system.
-fn code(status: Status) -> u8 {
+fn code(status: Status) -> u8
+    ensures { result ≡ status_code status }
+{
     match status {
         Status::Done => 0,
         Status::BadInput => 1,
