@@ -2,3 +2,4 @@ pub mod Numbers
 pub mod Between
 pub mod Ends
 pub mod Visits
+pub mod Deciding

@@ -6,6 +6,7 @@ ghost use Rattle.std.specs.Prelude.{◌≡◌, ◌+◌, ◌*◌, ◌<◌, ◌^�
 ghost use Rattle.sx_peel.specs.Peeling.{IsEdgeWithin, IsPeeled};
 
 mod degrees;
+pub mod law;
 mod rounds;
 
 use rounds::Peeling;
