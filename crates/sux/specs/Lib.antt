@@ -1,15 +1,2 @@
-pub mod FirstDump
-pub mod FirstBuild
-pub mod KeyLines
-pub mod Writing
-pub mod Telling
-pub mod Progress
-pub mod Serving
-pub mod Opening
-pub mod FirstCommand
-pub mod Storing
-pub mod Preparing
-pub mod KeyReading
-pub mod Served
 pub mod RealFiles
 pub mod Codes

@@ -4,34 +4,21 @@
 ghost use Rattle.std.specs.Prelude.{◌≡◌, ◌<◌};
 ghost use Rattle.sux.specs.Codes.{status_code};
 
-mod build;
-mod command;
-mod dump;
-mod keys;
-mod messages;
-mod open;
-mod prepare;
-mod query;
-mod run;
-mod serve;
 mod shelf;
 mod streams;
-mod telling;
-mod text_buffer;
-mod words;
 
-use crate::messages::usage_message;
-use crate::run::run;
 use crate::shelf::RealShelf;
 use crate::streams::{InputStream, OutputStream};
-use crate::telling::tell;
 use std::io::ErrorKind;
 use std::marker::Brand;
 use std::process::ExitCode;
 use std::sync::ledger::{Blank, Ledger};
 use std::{env, io};
+use sx_cli::Status;
+use sx_cli::messages::usage_message;
+use sx_cli::run::run;
+use sx_cli::telling::tell;
 use sx_edge::words::WordList;
-use sx_spec::Status;
 use sx_steps::Steps;
 
 /// The number that a run's status is to the system.

@@ -1,0 +1,95 @@
+//! The key lines of input.
+ghost use Rattle.std.specs.Prelude.{◌≡◌, ◌≤◌, ◌++◌, ◌∷◌, [], None, length, MatchResult};
+ghost use Rattle.sx_spec.specs.Keys.{refusal};
+ghost use Rattle.sx_spec.specs.FirstPath.{first_limits};
+ghost use Rattle.sx_cli.specs.KeyReading.{ReadsKeys, StopsKeys, StopsPush, StopsFault};
+
+use crate::messages::KeyReason;
+use std::alloc::Global;
+use sx_bits::{KeyFault, KeyList, Limits};
+use sx_edge::line::{LineFault, LineReader, Step};
+use sx_edge::source::Source;
+
+/// How many bytes a line has at most.
+pub const MAX_LINE: usize = 8191;
+
+/// How many keys there are at most: those of one chunk.
+const MAX_KEYS: u32 = 1024;
+
+/// Why no key list was read.
+#[derive(Clone, Copy, Debug, PartialEq, Eq)]
+pub enum KeysStop {
+    /// The line of this number, counted from 1, is no key.
+    Refused { line: u64, reason: KeyReason },
+    /// Input has failed.
+    Failed,
+    /// Memory is wanting.
+    Memory,
+}
+
+/// The limits of the first path.
+fn first_path_limits() -> Limits
+    ensures { result ≡ first_limits }
+{
+    Limits {
+        max_line: MAX_LINE,
+        max_keys: MAX_KEYS,
+        max_bytes: 268_435_456,
+    }
+}
+
+/// What a key list's refusal of a line comes to.
+fn stop_of(line: u64, fault: KeyFault) -> KeysStop
+    ensures { StopsFault line fault result }
+{
+    let reason = match fault {
+        KeyFault::ZeroByte => KeyReason::ZeroByte,
+        KeyFault::Doubled => KeyReason::Doubled,
+        KeyFault::Unordered => KeyReason::Unordered,
+        KeyFault::TooManyKeys => KeyReason::TooManyKeys,
+        KeyFault::TooManyBytes => KeyReason::TooManyBytes,
+        KeyFault::Memory => return KeysStop::Memory,
+    };
+    KeysStop::Refused { line, reason }
+}
+
+/// Puts the line of this number behind the keys, or says why it is none.
+fn push_key(keys: &mut KeyList, number: u64, line: &[u8]) -> Result<(), KeysStop>
+    requires { length line.now ≤ keys.old.limits.max_line }
+    ensures { MatchResult result
+        (λ _. (keys.new ≡ record keys.old { lines = keys.old.lines ++ line.now ∷ [] }) × (refusal keys.old.limits keys.old.lines line.now ≡ None))
+        (StopsPush keys.old.limits keys.old.lines line.now number) }
+{
+    match keys.push(line) {
+        Ok(()) => Ok(()),
+        Err(fault) => Err(stop_of(number, fault)),
+    }
+}
+
+/// Reads the lines of input as keys, up to the first that is none.
+pub fn read_keys<S: Source>(alloc: Global, input: &mut S) -> Result<KeyList, KeysStop>
+    ensures keys { MatchResult result (ReadsKeys (S.left input.old) (S.left input.new)) (StopsKeys (S.left input.old) (S.left input.new) (S.faults input.old) (S.faults input.new)) }
+    ensures later { S.faults input.old ≤ S.faults input.new }
+{
+    let mut reader = match LineReader::new(alloc, MAX_LINE) {
+        Ok(reader) => reader,
+        Err(_) => return Err(KeysStop::Memory),
+    };
+    let mut keys = KeyList::new(alloc, first_path_limits());
+    'lines: loop {
+        match reader.next(input) {
+            Ok(Step::Line) => match push_key(&mut keys, reader.number(), reader.line()) {
+                Ok(()) => {}
+                Err(stop) => return Err(stop),
+            },
+            Ok(Step::End) => return Ok(keys),
+            Err(LineFault::TooLong { line }) => {
+                return Err(KeysStop::Refused {
+                    line,
+                    reason: KeyReason::TooLong,
+                });
+            }
+            Err(LineFault::ReadFault) => return Err(KeysStop::Failed),
+        }
+    }
+}
