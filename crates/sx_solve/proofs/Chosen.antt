@@ -1,5 +1,5 @@
 -- The equations of a set, as the ones whose numbers are chosen.
-use Rattle.std.proofs.Common.{◌≡◌, ℕ, zero, suc, ◌+◌, ◌*◌, ◌%◌, ◌<◌, ◌≤◌, Bool, true, false, cond, List, [], ◌∷◌, ◌++◌, length, map, refl, sym, ap, subst, ◌∙◌, arith, Some, inl, inr, ◌⊎◌, zero-add}
+use Rattle.std.proofs.Common.{◌≡◌, ◌≢◌, ℕ, zero, suc, ◌+◌, ◌*◌, ◌%◌, ◌<◌, ◌≤◌, Bool, true, false, cond, List, [], ◌∷◌, ◌++◌, length, map, refl, sym, ap, subst, ◌∙◌, arith, Some, inl, inr, ◌⊎◌, zero-add}
 use Rattle.std.specs.Prelude.{◌==◌, slice_get, fold, bit_xor, filter}
 use Rattle.std.specs.List.{AllByRecursion, cons_option, range_with_len}
 use Rattle.std.specs.List.Sorted.{IsStrictlyIncreasing}
@@ -111,7 +111,7 @@ marked_more p n =
     ap (filter p) (range_more 0 n ∙ ap (λ k. range_with_len 0 n ++ k ∷ []) (zero-add n))
     ∙ filter-append p (range_with_len 0 n) (n ∷ [])
 
--- ---- a row without unknowns is a sum
+-- ---- marks without unknowns are a sum
 
 range_rising : (a n : ℕ) → IsStrictlyIncreasing (range_with_len a n)
 range_rising a n k h =
@@ -132,14 +132,15 @@ all_even : (equations : List Equation) (xs : List ℕ) → ((v : ℕ) → count_
 all_even equations [] even = tt
 all_even equations (x ∷ xs) even = (even x, all_even equations xs even)
 
-pub contradictory_sum : (equations : List Equation) (r : Row) → IsContradictory equations r
-    → IsSum equations (filter (λ i. bit r.set.items i == 1) (range_with_len 0 (length equations)))
-contradictory_sum equations r is =
-    let marks = bit r.set.items in
+-- marked equations in which each unknown stands an even number of times, and whose values come to something
+pub marked_sum : (equations : List Equation) (marks : ℕ → ℕ) → ((j : ℕ) → marks j < 2)
+    → ((v : ℕ) → times_by marks 0 equations v % 2 ≡ 0) → xor_by marks 0 (values equations) ≢ 0
+    → IsSum equations (filter (λ i. marks i == 1) (range_with_len 0 (length equations)))
+marked_sum equations marks small even differs =
     let numbers = filter (λ i. marks i == 1) (range_with_len 0 (length equations)) in
     let those : chosen equations numbers ≡ picked marks 0 equations = chosen_behind marks [] equations 0 refl in
-    let value : xor_all (map (λ q. q.value) (chosen equations numbers)) ≡ r.value =
-    ap (λ (qs : List Equation). xor_all (map (λ q. q.value) qs)) those ∙ picked_xor marks (bit_small r.set.items) 0 equations ∙ sym is.sum.value in
+    let value : xor_all (map (λ q. q.value) (chosen equations numbers)) ≡ xor_by marks 0 (values equations) =
+    ap (λ (qs : List Equation). xor_all (map (λ q. q.value) qs)) those ∙ picked_xor marks small 0 equations in
     record {
       set = record {
         rising = IsStrictlyIncreasing-filter (λ i. marks i == 1) (range_with_len 0 (length equations)) (range_rising 0 (length equations));
@@ -148,14 +149,18 @@ contradictory_sum equations r is =
       };
       sum = record {
         even = all_even (chosen equations numbers) (all_unknowns (chosen equations numbers)) (λ v.
-            let times : count_of v (all_unknowns (chosen equations numbers)) ≡ times_by marks 0 equations v = ap (λ (qs : List Equation). count_of v (all_unknowns qs)) those ∙ picked_times marks (bit_small r.set.items) 0 equations v in
-            let bits = is.sum.unknowns v in
-            let none = is.none v in
-            omega arith);
-        value = λ zero_value. is.value (sym value ∙ zero_value);
+            let times : count_of v (all_unknowns (chosen equations numbers)) ≡ times_by marks 0 equations v = ap (λ (qs : List Equation). count_of v (all_unknowns qs)) those ∙ picked_times marks small 0 equations v in
+            ap (λ n. n % 2) times ∙ even v);
+        value = λ zero_value. differs (sym value ∙ zero_value);
       };
     }
   where
-    some_number : (numbers : List ℕ) → xor_all (map (λ q. q.value) (chosen equations numbers)) ≡ r.value → 0 < length numbers
-    some_number [] value = absurd (is.value (sym value))
+    some_number : (numbers : List ℕ) → xor_all (map (λ q. q.value) (chosen equations numbers)) ≡ xor_by marks 0 (values equations) → 0 < length numbers
+    some_number [] value = absurd (differs (sym value))
     some_number (n ∷ numbers) value = omega arith
+
+-- a row without unknowns
+pub contradictory_sum : (equations : List Equation) (r : Row) → IsContradictory equations r
+    → IsSum equations (filter (λ i. bit r.set.items i == 1) (range_with_len 0 (length equations)))
+contradictory_sum equations r is =
+    marked_sum equations (bit r.set.items) (bit_small r.set.items) (λ v. sym (is.sum.unknowns v) ∙ is.none v) (λ zero_value. is.value (is.sum.value ∙ zero_value))

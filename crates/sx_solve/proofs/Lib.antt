@@ -4,3 +4,4 @@ pub mod Sums
 pub mod Filled
 pub mod Chosen
 pub mod Taken
+pub mod Deciding

@@ -171,27 +171,30 @@ times_by_one f i (suc n) (q ∷ qs) v d one others within =
     let rest = times_by_one f (i + 1) n qs v d (ap f next ∙ one) (λ j differ. others j (λ same. differ (same ∙ sym next))) (omega arith) in
     omega arith
 
+-- what is past three numbers is none of them
+pub past_three : (v a b c : ℕ) → a < v → b < v → c < v → count_of v (a ∷ b ∷ c ∷ []) ≡ 0
+past_three v a b c past_a past_b past_c =
+    elim (front_cases v a (b ∷ c ∷ [])) [
+      | inl here ↦ absurd (let e = here.0 in omega arith)
+      | inr later ↦ later.1 ∙ elim (front_cases v b (c ∷ [])) [
+        | inl here ↦ absurd (let e = here.0 in omega arith)
+        | inr rest ↦ rest.1 ∙ elim (front_cases v c []) [
+          | inl here ↦ absurd (let e = here.0 in omega arith)
+          | inr end ↦ end.1
+        ]
+      ]
+    ]
+
+pub times_none : (m : ℕ) (q : Equation) (v : ℕ) → count_of v (vertices (unknowns q)) ≡ 0 → m * count_of v (vertices (unknowns q)) ≡ 0
+times_none m q v none = ap (λ n. m * n) none ∙ (let e : m * 0 ≡ 0 = omega arith in e)
+
 -- an unknown past the bound stands in no equation
 pub times_by_past : (f : ℕ → ℕ) (i : ℕ) (qs : List Equation) (bound v : ℕ) → AllByRecursion (IsEquationWithin bound) qs → bound ≤ v → times_by f i qs v ≡ 0
 times_by_past f i [] bound v all past = refl
 times_by_past f i (q ∷ qs) bound v all past =
-    let none : count_of v (vertices (unknowns q)) ≡ 0 = none_of q.a q.b q.c all.0.a all.0.b all.0.c in
-    let here : f i * count_of v (vertices (unknowns q)) ≡ 0 = ap (λ n. f i * n) none ∙ mul_zero (f i) in
+    let in_a = all.0.a in
+    let in_b = all.0.b in
+    let in_c = all.0.c in
+    let here = times_none (f i) q v (past_three v q.a q.b q.c (omega arith) (omega arith) (omega arith)) in
     let rest = times_by_past f (i + 1) qs bound v all.1 past in
     omega arith
-  where
-    mul_zero : (n : ℕ) → n * 0 ≡ 0
-    mul_zero n = omega arith
-
-    none_of : (a b c : ℕ) → a < bound → b < bound → c < bound → count_of v (a ∷ b ∷ c ∷ []) ≡ 0
-    none_of a b c in_a in_b in_c =
-        elim (front_cases v a (b ∷ c ∷ [])) [
-          | inl here ↦ absurd (let e = here.0 in omega arith)
-          | inr later ↦ later.1 ∙ elim (front_cases v b (c ∷ [])) [
-            | inl here ↦ absurd (let e = here.0 in omega arith)
-            | inr rest ↦ rest.1 ∙ elim (front_cases v c []) [
-              | inl here ↦ absurd (let e = here.0 in omega arith)
-              | inr end ↦ end.1
-            ]
-          ]
-        ]

@@ -29,7 +29,7 @@ sum_is_row equations r s t is_r is_s unknowns_sum set_sum value_sum = record {
       ∙ sym (xor_by_sum (bit r.set.items) (bit s.set.items) (bit t.set.items) (bit_small r.set.items) (bit_small s.set.items) set_sum 0 (values equations));
 }
 
-cancel : (x y s : ℕ) → bit_xor x s ≡ bit_xor y s → x ≡ y
+pub cancel : (x y s : ℕ) → bit_xor x s ≡ bit_xor y s → x ≡ y
 cancel x y s same =
     sym (xor_zero_r x) ∙ ap (bit_xor x) (sym (xor_self s)) ∙ sym (xor_assoc x s s)
     ∙ ap (λ z. bit_xor z s) same ∙ xor_assoc y s s ∙ ap (bit_xor y) (xor_self s) ∙ xor_zero_r y

@@ -6,6 +6,7 @@ ghost use Rattle.sx_solve.specs.Solving.{IsEquationWithin, IsSolved};
 
 mod bits;
 mod cells;
+pub mod law;
 mod rows;
 
 use cells::cells_of;
