@@ -1,5 +1,5 @@
 -- How reading the lines of input goes on, and what it comes to.
-use Rattle.std.proofs.Common.{◌≡◌, ℕ, ◌<◌, ◌≤◌, Bool, true, false, List, [], ◌∷◌, ◌++◌, length, refl, sym, ap, subst, ◌∙◌, arith, append_assoc, inl, inr, ◌⊎◌, Option, Some, None}
+use Rattle.std.proofs.Common.{◌≡◌, ◌≢◌, ℕ, ◌<◌, ◌≤◌, Bool, true, false, List, [], ◌∷◌, ◌++◌, length, refl, sym, ap, subst, ◌∙◌, arith, append_assoc, inl, inr, ◌⊎◌, Option, Some, None}
 use Rattle.std.specs.Prelude.{IfSome}
 use Rattle.std.specs.Io.KnownBytes.{Consumes, IsAtEnd}
 use Rattle.std.specs.List.{AllByRecursion}
@@ -7,9 +7,14 @@ use Rattle.std.proofs.KnownBytes.{Consumes-trans, Consumes-nil}
 use Rattle.std.proofs.lemmas.List.{length-append}
 use Rattle.sx_spec.specs.Command.{Text}
 use Rattle.sx_spec_strings.specs.Lines.{lines}
-use Rattle.sx_cli.specs.KeyLines.{HasNoFeed, fed}
+use Rattle.sx_edge.specs.Places.{HasNoFeed}
+use Rattle.sx_edge.proofs.LineLaws.{lines-last}
+use Rattle.sx_cli.specs.KeyLines.{fed}
 use Rattle.sx_cli.specs.Progress.{Begins, BreaksBehind, Over, Progress, ReadsAll, FailsBehind, StopsAt}
-use Rattle.sx_cli.proofs.FedLines.{lines-last, lines-fed_all, fed-push, all_push, unfinished-fed, complete-fed, append_nothing}
+use Rattle.sx_cli.proofs.FedLines.{lines-fed_all, fed-push, all_push, unfinished-fed, complete-fed, append_nothing}
+
+not_empty : (xs : List ℕ) → 0 < length xs → xs ≢ []
+not_empty xs some = λ e. absurd (omega (arith, ap (λ (l : List ℕ). length l) e))
 
 pub starts : (first : Option (List ℕ)) → Progress first first [] false []
 starts first = record { state = inl (record { taken = Consumes-nil first; no_feeds = tt }); end = λ e. absurd cc }
@@ -34,7 +39,7 @@ breaks_behind first now held ended ls p = elim p.state [
 ]
   where
     whole : (o : Over first now held ended ls) → lines (fed o.front ++ o.last) ≡ ls
-    whole o = lines-fed_all o.front o.last o.no_feeds ∙ ap (λ (x : List Text). o.front ++ x) (lines-last o.last o.no_feed o.some) ∙ sym o.is
+    whole o = lines-fed_all o.front o.last o.no_feeds ∙ ap (λ (x : List Text). o.front ++ x) (lines-last o.last o.no_feed (not_empty o.last o.some)) ∙ sym o.is
 
     going : (f n : Option (List ℕ)) → Consumes f n (fed ls ++ held) → AllByRecursion HasNoFeed ls → Begins f ls
     going None n c none = tt
@@ -113,7 +118,7 @@ module _ (first now then : Option (List ℕ)) (held next bytes : List ℕ) (ende
         record {
           taken = fed o.front ++ o.last;
           consumed = subst (λ x. Consumes first x (fed o.front ++ o.last)) (sym same) o.taken;
-          are = lines-fed_all o.front o.last o.no_feeds ∙ ap (λ (x : List Text). o.front ++ x) (lines-last o.last o.no_feed o.some) ∙ sym o.is;
+          are = lines-fed_all o.front o.last o.no_feeds ∙ ap (λ (x : List Text). o.front ++ x) (lines-last o.last o.no_feed (not_empty o.last o.some)) ∙ sym o.is;
           end = ends p is;
         }
   ]
@@ -187,7 +192,7 @@ stops_at_last first now held ended ls line IsLine is p = elim p.state [
 ]
   where
     whole : (o : Over first now held ended (ls ++ line ∷ [])) → lines (fed o.front ++ o.last) ≡ ls ++ line ∷ []
-    whole o = lines-fed_all o.front o.last o.no_feeds ∙ ap (λ (x : List Text). o.front ++ x) (lines-last o.last o.no_feed o.some) ∙ sym o.is
+    whole o = lines-fed_all o.front o.last o.no_feeds ∙ ap (λ (x : List Text). o.front ++ x) (lines-last o.last o.no_feed (not_empty o.last o.some)) ∙ sym o.is
 
     going : (f n : Option (List ℕ)) → Consumes f n (fed (ls ++ line ∷ []) ++ held) → AllByRecursion HasNoFeed (ls ++ line ∷ []) → IfSome f (λ all. (rest : List Text) × (other : Text) × IsLine other × (lines all ≡ ls ++ other ∷ rest))
     going None n c none = tt

@@ -6,35 +6,20 @@ use Rattle.std.proofs.lemmas.List.{length-append}
 use Rattle.std.proofs.lemmas.List.Sums.{suffix_len_is}
 use Rattle.std.proofs.Math.Seq.{take-append_seam, drop-append_seam}
 use Rattle.sx_spec_strings.specs.Lines.{is_line_feed, lines, unfinished_line, complete_lines}
-use Rattle.sx_cli.specs.KeyLines.{HasNoFeed, fed}
+use Rattle.sx_edge.specs.Places.{HasNoFeed}
+use Rattle.sx_edge.proofs.LineLaws.{lines-feed}
+use Rattle.sx_cli.specs.KeyLines.{fed}
 
 neither : (a b : Bool) → (a || b) ≡ false → (a ≡ false) × (b ≡ false)
 neither true b e = absurd cc
 neither false b e = (refl, e)
-
--- a line with a line feed behind it is the first line
-pub lines-fed : (line rest : List ℕ) → HasNoFeed line → lines (line ++ 10 ∷ rest) ≡ line ∷ lines rest
-lines-fed [] rest none = refl
-lines-fed (b ∷ line) rest none =
-    let (here, later) = neither (is_line_feed b) (list_any is_line_feed line) none in
-    let whole = lines-fed line rest later in
-    rw (here, whole) refl
-
--- what has no line feed and some byte is one line
-pub lines-last : (line : List ℕ) → HasNoFeed line → 0 < length line → lines line ≡ line ∷ []
-lines-last [] none some = absurd (omega arith)
-lines-last (b ∷ []) none some = let (here, later) = neither (is_line_feed b) false none in rw here refl
-lines-last (b ∷ c ∷ line) none some =
-    let (here, later) = neither (is_line_feed b) (list_any is_line_feed (c ∷ line)) none in
-    let rest = lines-last (c ∷ line) later (omega arith) in
-    rw (here, rest) refl
 
 -- lines and what follows them
 pub lines-fed_all : (ls : List (List ℕ)) (rest : List ℕ) → AllByRecursion HasNoFeed ls → lines (fed ls ++ rest) ≡ ls ++ lines rest
 lines-fed_all [] rest none = refl
 lines-fed_all (l ∷ ls) rest none =
     let first : (l ++ 10 ∷ fed ls) ++ rest ≡ l ++ 10 ∷ (fed ls ++ rest) = append_assoc l (10 ∷ fed ls) rest in
-    ap lines first ∙ lines-fed l (fed ls ++ rest) none.0 ∙ ap (λ (x : List (List ℕ)). l ∷ x) (lines-fed_all ls rest none.1)
+    ap lines first ∙ lines-feed l (fed ls ++ rest) none.0 ∙ ap (λ (x : List (List ℕ)). l ∷ x) (lines-fed_all ls rest none.1)
 
 fed-more : (ls : List (List ℕ)) (line : List ℕ) → fed (ls ++ line ∷ []) ≡ fed ls ++ (line ++ 10 ∷ [])
 fed-more [] line = refl

@@ -1,7 +1,5 @@
 -- Why a line of the key file is refused.
-use Rattle.std.specs.Prelude.{◌≡◌, ℕ, codes, false, List, [], ◌∷◌, ◌++◌}
-use Rattle.std.specs.List.{list_any}
-use Rattle.sx_spec_strings.specs.Lines.{is_line_feed}
+use Rattle.std.specs.Prelude.{ℕ, codes, List, [], ◌∷◌, ◌++◌}
 use Rattle.sx_spec.specs.Command.{Text}
 use Rattle.sx_spec.specs.Keys.{Reason, too_long, zero_byte, doubled, unordered, too_many_keys, too_many_bytes, KeyFault as SpecFault}
 use Rattle.sx_cli.specs.declared.messages.KeyReason.{KeyReason}
@@ -28,10 +26,6 @@ told_of Doubled = codes ": equal to the line before"
 told_of Unordered = codes ": below the line before"
 told_of TooManyKeys = codes ": beyond the first path"
 told_of TooManyBytes = codes ": more than 268435456 bytes of keys"
-
--- no byte is a line feed
-abbrev pub HasNoFeed : List ℕ → Type 0
-HasNoFeed bytes = list_any is_line_feed bytes ≡ false
 
 -- the bytes of lines, a line feed behind each
 abbrev pub fed : List Text → List ℕ

@@ -4,7 +4,8 @@ use Rattle.std.specs.Io.KnownBytes.{Consumes, IsAtEnd}
 use Rattle.std.specs.List.{AllByRecursion}
 use Rattle.sx_spec.specs.Command.{Text}
 use Rattle.sx_spec_strings.specs.Lines.{lines, complete_lines, unfinished_line}
-use Rattle.sx_cli.specs.KeyLines.{HasNoFeed, fed}
+use Rattle.sx_edge.specs.Places.{HasNoFeed}
+use Rattle.sx_cli.specs.KeyLines.{fed}
 
 -- the lines were taken with a line feed behind each, and the bytes held after them
 pub record Going (first now : Option (List ℕ)) (held : List ℕ) (ls : List Text) : Type 0 where
