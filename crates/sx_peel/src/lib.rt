@@ -51,27 +51,4 @@ pub fn peel(alloc: Global, vertices: u32, edges: &[Edge]) -> Result<Peeled, Allo
 }
 
 #[cfg(test)]
-mod tests {
-    use super::*;
-    use std::test::Fail;
-
-    #[test]
-    fn equal_edges_are_a_core(rt: HostRuntime) -> Result<(), Fail> {
-        let edge = Edge { a: 0, b: 2, c: 4 };
-        match peel(rt.alloc(), 6, &[edge, edge])? {
-            Peeled::Core(numbers) => assert_eq!(rt; numbers.as_slice(), [0, 1].as_slice()),
-            Peeled::Order(_) => assert!(rt; false, "an order"),
-        }
-        Ok(())
-    }
-
-    #[test]
-    fn edges_apart_are_taken(rt: HostRuntime) -> Result<(), Fail> {
-        let edges = [Edge { a: 0, b: 2, c: 4 }, Edge { a: 1, b: 3, c: 5 }];
-        match peel(rt.alloc(), 6, &edges)? {
-            Peeled::Order(taken) => assert_eq!(rt; taken.len(), 2),
-            Peeled::Core(_) => assert!(rt; false, "a core"),
-        }
-        Ok(())
-    }
-}
+mod tests;
