@@ -3,6 +3,7 @@
 #![tactic(auto)]
 
 pub mod line;
+pub mod memory;
 pub mod shelf;
 pub mod sink;
 pub mod source;
