@@ -18,7 +18,7 @@ pub struct FuncView<B: WordBank + Copy> {
     pub first: usize,
     pub pairs: u32,
     ghost stands: { IsOneChunk (B.words_of bank) first pairs },
-    ghost far: { length (B.words_of bank) < 2 ^ 63 },
+    ghost far: { length (B.words_of bank) < 2 ^ 64 },
 }
 
 impl<B: WordBank + Copy> Clone for FuncView<B> {
@@ -35,12 +35,13 @@ impl<B: WordBank + Copy> FuncView<B> {
     pub fn new(bank: B, first: usize, width: u32, pairs: u32) -> FuncView<B>
         requires width { width ≡ 64 }
         requires stands { IsOneChunk (B.words_of bank) first pairs }
-        requires far { length (B.words_of bank) < 2 ^ 63 }
         ensures bank { result.bank ≡ bank }
         ensures first { result.first ≡ first }
         ensures pairs { result.pairs ≡ pairs }
     {
         let _ = width;
+        // a bank says that it has fewer than 2^64 words, so no place in it overflows
+        let _ = bank.words();
         FuncView { bank, first, pairs }
     }
 
