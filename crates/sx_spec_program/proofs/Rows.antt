@@ -1,0 +1,23 @@
+-- The worked examples hold, by computing.
+use Rattle.std.proofs.Common.{refl}
+use Rattle.sx_spec_program.specs.Examples.{WordExamples, OpenExamples}
+
+pub word_examples : WordExamples
+word_examples = record {
+  none = refl;
+  no_command = refl;
+  not_offered = refl;
+  too_few = refl;
+  twice = refl;
+  option_not_offered = refl;
+  no_kind = refl;
+  kind_not_offered = refl;
+  bad_value = refl;
+  plain = refl;
+  seeds = refl;
+  query_words = refl;
+  dump_words = refl;
+}
+
+pub open_examples : OpenExamples
+open_examples = record { kind = refl; signed = refl }

@@ -1,0 +1,51 @@
+-- Worked examples of what a program that offers a part of the whole reads and opens.
+use Rattle.std.specs.Prelude.{◌≡◌, ℕ, List, [], ◌∷◌, ◌++◌, None, Some, Ok, Err, codes}
+use Rattle.sx_spec_kinds.specs.declared.Kind.TheVariants.{Func}
+use Rattle.sx_spec.specs.declared.Method.TheVariants.{Mwhc, Gov3}
+use Rattle.sx_spec.specs.declared.OptionName.TheVariants.{SigBits}
+use Rattle.sx_spec.specs.declared.Rule.TheVariants.{NoCommand, UnknownCommand, BadWords, UnknownKind, BadValue}
+use Rattle.sx_spec.specs.Command.{Text, Task, BuildTask, usage, build, query, show_dump}
+use Rattle.sx_spec.specs.Layout.{words_bytes, magic}
+use Rattle.sx_spec_program.specs.Offer.{offered, opened_by}
+use Rattle.sx_spec_program.specs.Program.{func_offer}
+
+-- the words as the program over static functions reads them
+abbrev pub reads : List Text → Task
+reads words = offered func_offer words
+
+-- `build` of the file D with these seeds, so many bits of signatures, and values from a file
+abbrev pub builds : List ℕ → ℕ → BuildTask
+builds seeds bits = record {
+  plan = record { kind = Func; method = Mwhc; log_bucket = 0; sig_bits = bits; handle_bits = 0; signed = 0 };
+  seeds = seeds;
+  values = None;
+  dump = codes "D";
+}
+
+-- which words are refused, and by which rule
+pub record WordExamples : Type 0 where
+  pub none : reads [] ≡ usage NoCommand
+  pub no_command : reads (codes "frob" ∷ []) ≡ usage UnknownCommand
+  pub not_offered : reads (codes "trial" ∷ codes "func" ∷ codes "3" ∷ []) ≡ usage UnknownCommand
+  pub too_few : reads (codes "build" ∷ codes "lcp" ∷ []) ≡ usage BadWords
+  pub twice : reads (codes "build" ∷ codes "lcp" ∷ codes "D" ∷ codes "--seeds" ∷ codes "1" ∷ codes "--seeds" ∷ codes "2" ∷ []) ≡ usage BadWords
+  pub option_not_offered : reads (codes "build" ∷ codes "tree" ∷ codes "D" ∷ codes "--signed" ∷ codes "8" ∷ []) ≡ usage BadWords
+  pub no_kind : reads (codes "build" ∷ codes "tree" ∷ codes "D" ∷ []) ≡ usage UnknownKind
+  pub kind_not_offered : reads (codes "build" ∷ codes "lcp" ∷ codes "D" ∷ codes "--sig-bits" ∷ codes "193" ∷ []) ≡ usage UnknownKind
+  pub bad_value : reads (codes "build" ∷ codes "func" ∷ codes "D" ∷ codes "--sig-bits" ∷ codes "193" ∷ []) ≡ usage (BadValue SigBits)
+  pub plain : reads (codes "build" ∷ codes "func" ∷ codes "D" ∷ []) ≡ build (builds (0 ∷ 1 ∷ 2 ∷ 3 ∷ []) 192)
+  pub seeds : reads (codes "build" ∷ codes "func" ∷ codes "--seeds=7,8" ∷ codes "D" ∷ codes "--sig-bits" ∷ codes "0" ∷ []) ≡ build (builds (7 ∷ 8 ∷ []) 0)
+  pub query_words : reads (codes "query" ∷ codes "D" ∷ []) ≡ query (codes "D")
+  pub dump_words : reads (codes "dump" ∷ codes "D" ∷ []) ≡ show_dump (codes "D")
+
+-- the words of an empty hollow dump, and of an empty function with a signed width
+abbrev pub hollow_words : List ℕ
+hollow_words = magic ∷ 16 ∷ 3 ∷ 0 ∷ 0 ∷ 0 ∷ 192 ∷ 0 ∷ 0 ∷ 0 ∷ 1 ∷ 1 ∷ 1 ∷ 1 ∷ 1 ∷ 1 ∷ []
+
+abbrev pub signed_words : List ℕ
+signed_words = magic ∷ 14 ∷ 0 ∷ 0 ∷ 0 ∷ 0 ∷ 192 ∷ 0 ∷ 8 ∷ 0 ∷ 0 ∷ 0 ∷ 0 ∷ 0 ∷ []
+
+-- which dumps aren't opened
+pub record OpenExamples : Type 0 where
+  pub kind : opened_by func_offer (words_bytes hollow_words) ≡ Err 4
+  pub signed : opened_by func_offer (words_bytes signed_words) ≡ Err 9

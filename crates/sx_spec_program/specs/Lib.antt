@@ -1,0 +1,3 @@
+pub mod Offer
+pub mod Program
+pub mod Examples
