@@ -1,5 +1,5 @@
 //! Fields in words of a bank.
-ghost use Rattle.std.specs.Prelude.{◌≡◌, ◌+◌, ◌*◌, ◌<◌, ◌≤◌, ◌^◌, All, drop, length};
+ghost use Rattle.std.specs.Prelude.{◌≡◌, ◌+◌, ◌*◌, ◌<◌, ◌≤◌, ◌^◌, All, drop, length, slice_index};
 ghost use Rattle.sx_spec.specs.Fields.{fields, words_for};
 
 use crate::bank::WordBank;
@@ -50,6 +50,27 @@ impl<B: WordBank + Copy> Packed<B> {
             width,
         }
     }
+
+    /// Number `i`, in at most two ticks.
+    pub fn read<L: Ledger>(&self, i: usize, steps: &mut Steps<L>) -> u64
+        requires { i < length (⟦<Packed<B> as Fields>⟧.items self.now) }
+        ensures value { result ≡ slice_index (⟦<Packed<B> as Fields>⟧.items self.now) i }
+        ensures counted { steps.old ≤ steps.new }
+        ensures cost { steps.new ≤ steps.old + 2 }
+    {
+        if self.width == 0 {
+            return 0;
+        }
+        let at = i * self.width as usize;
+        let word = self.first + at / 64;
+        let shift = (at % 64) as u32;
+        let low = self.bank.word(word, steps);
+        if shift + self.width <= 64 {
+            return inside(low, shift, self.width);
+        }
+        let high = self.bank.word(word + 1, steps);
+        across(low, high, shift, self.width)
+    }
 }
 
 impl<B: WordBank + Copy> Fields for Packed<B> {
@@ -72,17 +93,6 @@ impl<B: WordBank + Copy> Fields for Packed<B> {
     }
 
     fn get<L: Ledger>(&self, i: usize, steps: &mut Steps<L>) -> u64 {
-        if self.width == 0 {
-            return 0;
-        }
-        let at = i * self.width as usize;
-        let word = self.first + at / 64;
-        let shift = (at % 64) as u32;
-        let low = self.bank.word(word, steps);
-        if shift + self.width <= 64 {
-            return inside(low, shift, self.width);
-        }
-        let high = self.bank.word(word + 1, steps);
-        across(low, high, shift, self.width)
+        self.read(i, steps)
     }
 }

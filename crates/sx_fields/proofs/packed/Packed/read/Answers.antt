@@ -1,6 +1,6 @@
 use Rattle.std.proofs.Common.{◌≡◌, ◌*◌, ◌+◌, ◌/◌, ◌%◌, ◌^◌, ◌-◌, get_or, sym, drop, ◌∙◌, arith}
 use Rattle.sx_fields.proofs.Places.{bits_small, word_within, next_within, length-fields, field_empty, bank_inside, bank_across}
-use Rattle.sx_fields.proofs.packed.PackedFields.get.Goals as goal
+use Rattle.sx_fields.proofs.packed.Packed.read.Goals as goal
 
 pub returns-then-self-eq0-clause-value : goal.returns-then-self-eq0-clause-value
 returns-then-self-eq0-clause-value g c =
