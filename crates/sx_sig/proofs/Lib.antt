@@ -1,3 +1,5 @@
 pub mod ChunkBits
 pub mod DigestWords
+pub mod EqualPairs
+pub mod Groups
 pub mod Messages

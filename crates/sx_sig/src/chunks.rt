@@ -20,7 +20,7 @@ pub fn chunk_bits(pairs: u32) -> u32
 
 /// The first `width` bits of a word, as a number.
 #[inline(always)]
-fn first_bits_of(word: u64, width: u32) -> u64
+pub(crate) fn first_bits_of(word: u64, width: u32) -> u64
     requires { width ≤ 64 }
     ensures value { result ≡ word / 2 ^ (64 - width) }
     ensures below { result < 2 ^ width }

@@ -1,6 +1,9 @@
 //! Signatures and places that were computed elsewhere.
 
-use crate::{Method, Places, Signature, chunk_bits, chunk_of, places, segment, sign, top_bits};
+use crate::{
+    Grouped, Method, Places, Signature, chunk_bits, chunk_of, group, places, segment, sign,
+    top_bits,
+};
 use std::test::Fail;
 use sx_bits::BitView;
 
@@ -68,6 +71,41 @@ fn sizes(rt: HostRuntime) -> Result<(), Fail> {
         (u32::MAX, 22),
     ] {
         assert_eq!(rt; chunk_bits(pairs), want, "at {pairs}");
+    }
+    Ok(())
+}
+
+fn named(w0: u64) -> Signature {
+    Signature { w0, w1: 0, w2: 0 }
+}
+
+#[test]
+fn groups(rt: HostRuntime) -> Result<(), Fail> {
+    let half = 1 << 63;
+    let sigs = [named(0), named(half), named(1), named(half + 1)];
+    match group(rt.alloc(), &sigs, 1)? {
+        Grouped::Chunks(chunks) => {
+            assert_eq!(rt; chunks.len(), 2);
+            for (chunk, want) in chunks.iter().zip([[0, 2], [1, 3]]) {
+                assert_eq!(rt; chunk.as_slice(), want.as_slice());
+            }
+        }
+        Grouped::Twins { .. } => assert!(rt; false, "no two are equal"),
+    }
+    Ok(())
+}
+
+#[test]
+fn finds_the_first_twins(rt: HostRuntime) -> Result<(), Fail> {
+    let five = Signature {
+        w0: 5,
+        w1: 5,
+        w2: 5,
+    };
+    let sigs = [named(9), five, named(2), five, named(2), five];
+    match group(rt.alloc(), &sigs, 0)? {
+        Grouped::Twins { first, second } => assert_eq!(rt; (first, second), (1, 3)),
+        Grouped::Chunks(_) => assert!(rt; false, "two are equal"),
     }
     Ok(())
 }
