@@ -1,5 +1,12 @@
 pub mod Xors
 pub mod Filling
-pub mod Places
+pub mod Entries
+pub mod Numbers
+pub mod Solutions
+pub mod Counting
+pub mod Wholes
+pub mod Functions
 pub mod OneChunk
+pub mod ChunkTables
+pub mod FunctionSections
 pub mod Viewing

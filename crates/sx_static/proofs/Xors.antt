@@ -35,12 +35,12 @@ module _ (cells : List ℕ) (e : Edge) (value : ℕ) (within : IsEdgeWithin (len
       rw (get_or-set_other cells e.c e.a w 0 within.ac, get_or-set_same cells e.c w 0 within.c, get_or-set_other cells e.c e.b w 0 within.bc)
       (third (get_or cells e.a 0) (get_or cells e.b 0) value)
 
--- a cell of two cells and a value is a word
-pub xor_word : (a b c : ℕ) → a < 2 ^ 64 → b < 2 ^ 64 → c < 2 ^ 64 → bit_xor (bit_xor a b) c < 2 ^ 64
-xor_word a b c small_a small_b small_c = xor_lt 64 (bit_xor a b) c (xor_lt 64 a b small_a small_b) small_c
+-- a cell of two cells and a value is below a power of two as they are
+xor_below : (n a b c : ℕ) → a < 2 ^ n → b < 2 ^ n → c < 2 ^ n → bit_xor (bit_xor a b) c < 2 ^ n
+xor_below n a b c small_a small_b small_c = xor_lt n (bit_xor a b) c (xor_lt n a b small_a small_b) small_c
 
-pub words_set : (cells : List ℕ) (i j k value : ℕ) → j < length cells → k < length cells → value < 2 ^ 64 → All (λ w. w < 2 ^ 64) cells
-    → All (λ w. w < 2 ^ 64) (set cells i (bit_xor (bit_xor value (get_or cells j 0)) (get_or cells k 0)))
-words_set cells i j k value in_j in_k small words =
-    All-set (λ w. w < 2 ^ 64) cells i (bit_xor (bit_xor value (get_or cells j 0)) (get_or cells k 0))
-    (xor_word value (get_or cells j 0) (get_or cells k 0) small (words j 0 in_j) (words k 0 in_k)) words
+pub below_set : (n : ℕ) (cells : List ℕ) (i j k value : ℕ) → j < length cells → k < length cells → value < 2 ^ n → All (λ w. w < 2 ^ n) cells
+    → All (λ w. w < 2 ^ n) (set cells i (bit_xor (bit_xor value (get_or cells j 0)) (get_or cells k 0)))
+below_set n cells i j k value in_j in_k small below =
+    All-set (λ w. w < 2 ^ n) cells i (bit_xor (bit_xor value (get_or cells j 0)) (get_or cells k 0))
+    (xor_below n value (get_or cells j 0) (get_or cells k 0) small (below j 0 in_j) (below k 0 in_k)) below

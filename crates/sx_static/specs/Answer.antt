@@ -25,6 +25,7 @@ pub record IsDone (method : Method) (tries width : ℕ) (entries : List Entry) (
   pub built : IsBuiltFunction method width entries (function_of f)
   pub tried : AllByRecursion (λ c. c.try < tries) (function_of f).chunks
   pub table : f.table.items ≡ table_words 0 (function_of f).chunks
+  pub cell_width : f.cells.width ≡ width
   pub cells : AllByRecursion (λ v. v < 2 ^ width) f.cells.items
 
 -- the pairs that a witness names

@@ -1,3 +1,6 @@
 pub mod Answer
+pub mod FunctionSections
 pub mod Solving
+pub mod Tries
+pub mod Chunks
 pub mod Viewing

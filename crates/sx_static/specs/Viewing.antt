@@ -1,25 +1,28 @@
--- A function that is read from words: of one chunk, built by the first try, each cell a word.
-use Rattle.std.specs.Prelude.{◌≡◌, ℕ, ◌+◌, ◌/◌, ◌%◌, ◌≤◌, List, [], ◌∷◌, length, take, drop, slice_index}
-use Rattle.sx_spec.specs.Layout.{u32_max}
+-- A function that is read from words: a chunk table, and after it the cells as packed fields.
+use Rattle.std.specs.Prelude.{◌≡◌, ℕ, ◌+◌, ◌*◌, ◌<◌, ◌≤◌, ◌^◌, true, List, length, take, drop}
+use Rattle.sx_spec.specs.Chunks.{chunk_count}
+use Rattle.sx_spec.specs.Fields.{fields, words_for}
+use Rattle.sx_spec.specs.Layout.{is_table, table_cells, table_chunks}
 use Rattle.sx_spec.specs.StaticFunction.{Function}
 
--- how many cells the table names that stands in the words from a place on
-abbrev pub cells_named : List ℕ → ℕ → ℕ
-cells_named words first = slice_index words (first + 1)
+-- the chunk table of so many pairs that stands in the words from a place on
+abbrev pub table_at : List ℕ → (first pairs : ℕ) → List ℕ
+table_at words first pairs = take (chunk_count pairs + 1) (drop first words)
 
--- the table of one chunk and its cells stand in the words from a place on
-pub record IsOneChunk (words : List ℕ) (first pairs : ℕ) : Type 0 where
-  pub few : pairs ≤ 1024
-  pub start : slice_index words first ≡ 0
-  pub segments : cells_named words first % 3 ≡ 0
-  pub short : cells_named words first ≤ u32_max
-  pub within : first + 2 + cells_named words first ≤ length words
+-- a table of that many pairs and its cells of a width stand in the words from a place on
+pub record IsViewed (words : List ℕ) (first width pairs : ℕ) : Type 0 where
+  pub narrow : width ≤ 64
+  pub few : pairs < 2 ^ 32
+  pub table : is_table (table_at words first pairs) ≡ true
+  pub within : first + chunk_count pairs + 1 + words_for (table_cells (table_at words first pairs) * width) ≤ length words
 
 -- the function whose table and cells these are
-abbrev pub one_chunk_function : List ℕ → (first pairs : ℕ) → Function
-one_chunk_function words first pairs = record {
-  width = 64;
-  pairs = pairs;
-  chunks = record { segment = cells_named words first / 3; try = 0 } ∷ [];
-  cells = take (cells_named words first) (drop (first + 2) words);
-}
+abbrev pub viewed : List ℕ → (first width pairs : ℕ) → Function
+viewed words first width pairs =
+    let table = table_at words first pairs in
+    record {
+      width = width;
+      pairs = pairs;
+      chunks = table_chunks table;
+      cells = fields width (table_cells table) (drop (first + chunk_count pairs + 1) words);
+    }

@@ -1,23 +1,36 @@
 //! A function read from a bank of words.
 
 ghost use Rattle.std.specs.Prelude.{◌≡◌, ◌+◌, ◌≤◌, ◌<◌, ◌^◌, length};
+ghost use Rattle.sx_spec.specs.Chunks.{chunk_bits as chunk_bits_of, chunk_count as chunk_count_of};
 ghost use Rattle.sx_spec.specs.StaticFunction.{value_of};
-ghost use Rattle.sx_static.specs.Viewing.{IsOneChunk, one_chunk_function};
+ghost use Rattle.sx_static.specs.Viewing.{IsViewed, viewed};
 
 use crate::Signature;
+use crate::section::{chunk_count, start_of, try_of};
 use std::alloc::AllocError;
 use std::sync::ledger::Ledger;
 use sx_fields::bank::WordBank;
-use sx_sig::places;
+use sx_fields::packed::Packed;
+use sx_sig::{chunk_bits, chunk_of, places};
 use sx_steps::Steps;
 
-/// A function of one chunk whose table and cells stand in a bank from word `first` on.
+/// A function whose chunk table and cells stand in a bank from word `first` on.
 #[derive(Copy)]
 pub struct FuncView<B: WordBank + Copy> {
     pub bank: B,
     pub first: usize,
+    /// How many bits a cell has.
+    pub width: u32,
+    /// How many pairs the function was built from.
     pub pairs: u32,
-    ghost stands: { IsOneChunk (B.words_of bank) first pairs },
+    /// How many bits number the chunks.
+    bits: u32,
+    /// The first word of the cells.
+    cells: usize,
+    ghost stands: { IsViewed (B.words_of bank) first width pairs },
+    ghost numbered: { bits ≡ chunk_bits_of pairs },
+    ghost few: { bits ≤ 22 },
+    ghost behind: { cells ≡ first + chunk_count_of pairs + 1 },
     ghost far: { length (B.words_of bank) < 2 ^ 64 },
 }
 
@@ -30,40 +43,53 @@ impl<B: WordBank + Copy> Clone for FuncView<B> {
 }
 
 impl<B: WordBank + Copy> FuncView<B> {
-    /// The function whose table and cells stand from word `first` on: of `pairs` pairs, at most
-    /// 1,024, in one chunk that was built by the first try, each cell a word. So far the width is 64.
+    /// The function of `pairs` pairs whose chunk table stands from word `first` on, with its cells of
+    /// `width` bits, at most 64, behind it.
     pub fn new(bank: B, first: usize, width: u32, pairs: u32) -> FuncView<B>
-        requires width { width ≡ 64 }
-        requires stands { IsOneChunk (B.words_of bank) first pairs }
+        requires stands { IsViewed (B.words_of bank) first width pairs }
         ensures bank { result.bank ≡ bank }
         ensures first { result.first ≡ first }
+        ensures width { result.width ≡ width }
         ensures pairs { result.pairs ≡ pairs }
     {
-        let _ = width;
         // a bank says that it has fewer than 2^64 words, so no place in it overflows
         let _ = bank.words();
-        FuncView { bank, first, pairs }
+        let bits = chunk_bits(pairs);
+        let cells = first + chunk_count(pairs) + 1;
+        FuncView {
+            bank,
+            first,
+            width,
+            pairs,
+            bits,
+            cells,
+        }
     }
 
     /// The value of a signature, in at most eight reads of words: for a signature that the function
     /// was built from its value, for any other whatever the cells give.
     #[inline(always)]
     pub fn answer<L: Ledger>(&self, sig: &Signature, steps: &mut Steps<L>) -> u64
-        ensures value { result ≡ value_of (one_chunk_function (B.words_of self.now.bank) self.now.first self.now.pairs) sig.now }
+        ensures value { result ≡ value_of (viewed (B.words_of self.now.bank) self.now.first self.now.width self.now.pairs) sig.now }
         ensures counted { steps.old ≤ steps.new }
         ensures cost { steps.new ≤ steps.old + 8 }
     {
-        let cells = self.bank.word(self.first + 1, steps);
-        let segment = (cells / 3) as u32;
+        // the chunk of a first word of 64 bits is one of the table's
+        prove!(sig.w0 <= u64::MAX);
+        let at = self.first + chunk_of(sig, self.bits) as usize;
+        let here = self.bank.word(at, steps);
+        let next = self.bank.word(at + 1, steps);
+        let start = start_of(here);
+        let end = start_of(next);
+        let segment = ((end - start) / 3) as u32;
         if segment == 0 {
             return 0;
         }
-        // each signature lies in chunk 0, since its first word has 64 bits
-        prove!(sig.w0 <= u64::MAX);
-        let at = places(sig, 0, segment);
-        let start = self.first + 2;
-        self.bank.word(start + at.a as usize, steps)
-            ^ self.bank.word(start + at.b as usize, steps)
-            ^ self.bank.word(start + at.c as usize, steps)
+        let edge = places(sig, try_of(here), segment);
+        let cells = Packed::new(self.bank, self.cells, end as usize, self.width);
+        let start = start as usize;
+        cells.read(start + edge.a as usize, steps)
+            ^ cells.read(start + edge.b as usize, steps)
+            ^ cells.read(start + edge.c as usize, steps)
     }
 }

@@ -1,4 +1,4 @@
-use Rattle.std.proofs.Common.{◌≡◌, ◌+◌, ◌-◌, drop, arith}
+use Rattle.std.proofs.Common.{◌≡◌, ◌+◌, ◌-◌, ◌<◌, drop, get_or, length, arith}
 use Rattle.sx_spec.specs.declared.Edge.{Edge}
 use Rattle.sx_peel.specs.declared.Taken.{Taken}
 use Rattle.sx_static.specs.Solving.{AreMet}
@@ -28,10 +28,12 @@ loop-place-preserved c =
     let place = c.loop-place.place in
     let none : Taken = record { edge = 0; slot = 0 } in
     let edge : Edge = record { a = 0; b = 0; c = 0 } in
+    let below = taken_below edges order (place - 1) none (omega arith) c.requires.order in
+    let inside : (get_or order (place - 1) none).edge < length values = omega (arith, c.requires.values) in
     let back : (place - 1) + 1 ≡ place = omega arith in
     let later : AreMet edges values c.loop-place.cells (drop ((place - 1) + 1) order) = rw back c.loop-place.invariant.met in
     record {
       met = one_more_met edges values c.loop-place.cells c.settle.new.cells order (place - 1) none edge (omega arith) c.requires.order
           c.settle.ensures.others c.settle.ensures.met later;
-      words = c.settle.ensures.words c.loop-place.invariant.words;
+      narrow = λ k fit initial. c.settle.ensures.narrow k (fit _ _ inside) (c.loop-place.invariant.narrow k fit initial);
     }

@@ -1,0 +1,6 @@
+use Rattle.std.proofs.Common.{◌≡◌, take, map}
+use Rattle.std.specs.Prelude.{slice_index}
+use Rattle.sx_static.proofs.chunk.numbers_at.Given as goal
+
+abbrev pub invariant-loop-place : goal.invariant-loop-place
+invariant-loop-place l = l.found.items ≡ map (slice_index l.numbers) (take l.place-index l.places)
