@@ -1,14 +1,18 @@
 -- Key lists and what is put to their end.
-use Rattle.std.proofs.Common.{◌≡◌, ℕ, zero, suc, ◌+◌, ◌-◌, ◌<◌, ◌≤◌, List, [], ◌∷◌, ◌++◌, length, take, get_or, refl, sym, ap, subst, ◌∙◌, arith, inl, inr, Option, Some, None, Bool, true}
+use Rattle.std.proofs.Common.{◌≡◌, ℕ, zero, suc, ◌+◌, ◌-◌, ◌<◌, ◌≤◌, List, [], ◌∷◌, ◌++◌, length, take, get_or, refl, sym, ap, subst, ◌∙◌, arith, inl, inr, Option, Some, None, Bool, true, false}
 use Rattle.std.specs.Prelude.{slice_get, filter_map, option_map, ◌⊎◌, if◌then◌else◌}
 use Rattle.std.specs.List.{AllByRecursion, enumerate_from, cons_option}
 use Rattle.std.proofs.lemmas.List.{take-append-le}
-use Rattle.std.proofs.lemmas.List.Sums.{sum_by_push}
+use Rattle.std.proofs.lemmas.List.{length-append}
+use Rattle.std.proofs.lemmas.Bool.{ltb-false}
+use Rattle.sx_spec_strings.specs.First.{first_holding}
 use Rattle.sx_spec.specs.declared.Limits.{Limits}
-use Rattle.sx_spec.specs.Keys.{refusal, fault_at, total_bytes, AreKeys, IsKeyFile}
+use Rattle.sx_spec.specs.Keys.{refusal, reasons, fault_at, total_bytes, AreKeys, IsKeyFile}
 use Rattle.sx_spec.specs.Laws.{AreBytes}
 use Rattle.sx_spec.proofs.KeyFiles.{faultless_lines_are_keys}
+use Rattle.sx_bits.specs.Cuts.{cut, AreEnds}
 use Rattle.sx_bits.specs.KeyLists.{Keys, IsKeyList}
+use Rattle.sx_bits.proofs.Cuts.{cut_push, ends_push}
 
 -- ---- lists of which nothing is kept
 
@@ -87,22 +91,48 @@ key_list_push limits lines line valid free small = record {
   bytes = bytes_push lines line valid.bytes (all_bytes line small);
 }
 
--- and its bytes
-pub total_push : (lines : List (List ℕ)) (line : List ℕ) → total_bytes (lines ++ line ∷ []) ≡ total_bytes lines + length line
-total_push lines line = sum_by_push (λ (key : List ℕ). length key) lines line
-
 pub key_file : (keys : Keys) → IsKeyList keys → IsKeyFile keys.limits keys.lines
 key_file keys valid = faultless_lines_are_keys keys.limits keys.lines valid.faultless
 
--- a key list after a `push` of the vector
-pub pushed_list : (limits : Limits) (lines seen : List (List ℕ)) (line copy : List ℕ) (now : List (List ℕ)) (bytes : ℕ) (done : Bool)
-    → IsKeyList (record { limits = limits; lines = lines }) × (bytes ≡ total_bytes lines)
-    → seen ≡ lines → refusal limits seen line ≡ None → done ≡ true → copy ≡ line → now ≡ (if done then lines ++ copy ∷ [] else lines)
-    → ((i : ℕ) → get_or line i 0 < 256)
-    → IsKeyList (record { limits = limits; lines = now }) × (bytes + length line ≡ total_bytes now)
-pushed_list limits lines seen line copy now bytes done (valid, all) whole free ok same after small =
-    let free_here : refusal limits lines line ≡ None = subst (λ ls. refusal limits ls line ≡ None) whole free in
-    let now_is : now ≡ lines ++ line ∷ [] =
-    after ∙ ap (λ (b : Bool). if b then lines ++ copy ∷ [] else lines) ok ∙ ap (λ l. lines ++ l ∷ []) same in
-    let P : List (List ℕ) → Type 0 = λ ls. IsKeyList (record { limits = limits; lines = ls }) × (bytes + length line ≡ total_bytes ls) in
-    subst P (sym now_is) (key_list_push limits lines line valid free_here small, ap (λ n. n + length line) all ∙ sym (total_push lines line))
+-- ---- the fields of a list
+
+-- what holds of the fields of a key list
+abbrev pub HoldsKeys : Limits → List ℕ → List ℕ → Type 0
+HoldsKeys limits bytes ends = IsKeyList (record { limits = limits; lines = cut 0 ends bytes }) × AreEnds 0 ends (length bytes)
+
+none_holds : {X : Type 0} (rows : List (Bool × X)) → first_holding rows ≡ None → AllByRecursion (λ row. row.0 ≡ false) rows
+none_holds [] none = tt
+none_holds (row ∷ rows) none =
+    elim (row.0) as (λ b. row.0 ≡ b → (if b then Some row.1 else first_holding rows) ≡ None → AllByRecursion (λ r. r.0 ≡ false) (row ∷ rows)) [
+      | true ↦ λ holds found. absurd cc
+      | false ↦ λ fails rest. (fails, none_holds rows rest)
+    ] refl none
+
+-- a line that isn't refused has room
+pub room_for : (limits : Limits) (lines : List (List ℕ)) (line : List ℕ) → refusal limits lines line ≡ None → total_bytes lines + length line ≤ limits.max_bytes
+room_for limits lines line free =
+    let each = none_holds (reasons limits lines line) free in
+    ltb-false limits.max_bytes (total_bytes lines + length line) each.1.1.1.1.1.0
+
+-- the fields after one more line
+pub pushed_fields : (limits : Limits) (bytes ends line after cuts : List ℕ) → HoldsKeys limits bytes ends
+    → refusal limits (cut 0 ends bytes) line ≡ None → ((i : ℕ) → get_or line i 0 < 256)
+    → after ≡ bytes ++ line → cuts ≡ ends ++ (length bytes + length line) ∷ []
+    → HoldsKeys limits after cuts
+pushed_fields limits bytes ends line after cuts (valid, are) free small after_is cuts_is =
+    let lines_after = cut_push 0 ends bytes line are in
+    let P : List (List ℕ) → Type 0 = λ ls. IsKeyList (record { limits = limits; lines = ls }) in
+    let list : IsKeyList (record { limits = limits; lines = cut 0 (ends ++ (length bytes + length line) ∷ []) (bytes ++ line) }) =
+    subst P (sym lines_after) (key_list_push limits (cut 0 ends bytes) line valid free small) in
+    let all : length (bytes ++ line) ≡ length bytes + length line = length-append bytes line in
+    let whole : AreEnds 0 (ends ++ (length bytes + length line) ∷ []) (length (bytes ++ line)) = rw all (ends_push 0 ends (length bytes) (length line) are) in
+    rw (after_is, cuts_is) (list, whole)
+
+-- and what they stand for
+pub pushed_keys : (keys : Keys) (limits : Limits) (bytes ends line after cuts : List ℕ) → AreEnds 0 ends (length bytes) → ◌≡◌ {A = Keys} (record { limits = limits; lines = cut 0 ends bytes }) keys
+    → after ≡ bytes ++ line → cuts ≡ ends ++ (length bytes + length line) ∷ []
+    → ◌≡◌ {A = Keys} (record { limits = limits; lines = cut 0 cuts after }) (record { limits = keys.limits; lines = keys.lines ++ line ∷ [] })
+pushed_keys keys limits bytes ends line after cuts are seen after_is cuts_is =
+    let lines_after : cut 0 cuts after ≡ cut 0 ends bytes ++ line ∷ [] = rw (after_is, cuts_is) (cut_push 0 ends bytes line are) in
+    ap {B = Keys} (λ (ls : List (List ℕ)). record { limits = limits; lines = ls }) lines_after
+    ∙ ap {B = Keys} (λ (k : Keys). record { limits = k.limits; lines = k.lines ++ line ∷ [] }) seen

@@ -1,5 +1,5 @@
 -- The bits of a key list's lines.
-use Rattle.std.proofs.Common.{◌≡◌, ℕ, ◌<◌, List}
+use Rattle.std.proofs.Common.{◌<◌}
 use Rattle.std.specs.Prelude.{map}
 use Rattle.std.specs.List.{AllByRecursion}
 use Rattle.sx_spec_strings.specs.Bits.{AreKeyBits, key_bits}

@@ -4,7 +4,9 @@ pub mod LineBytes
 pub mod PackedBits
 pub mod Windows
 pub mod ViewBits
+pub mod Cuts
 pub mod Faultless
+pub mod LastKeys
 pub mod PackedPieces
 pub mod NumberBytes
 pub mod Prefixes

@@ -1,3 +1,4 @@
 pub mod Views
 pub mod KeyLists
 pub mod Pieces
+pub mod Cuts

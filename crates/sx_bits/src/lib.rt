@@ -3,7 +3,6 @@
 
 mod fault;
 mod keys;
-mod line;
 mod packing;
 mod pieces;
 mod view;

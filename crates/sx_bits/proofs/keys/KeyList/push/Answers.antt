@@ -1,20 +1,28 @@
-use Rattle.std.proofs.Common.{ap, arith}
-use Rattle.std.specs.Result.{is_ok}
+use Rattle.std.proofs.Common.{◌≡◌, ◌∙◌, ap, arith, None}
+use Rattle.sx_spec.specs.Keys.{refusal}
 use Rattle.sx_bits.specs.KeyLists.{Keys}
-use Rattle.sx_bits.proofs.Faultless.{key_file, pushed_list}
+use Rattle.sx_bits.specs.Cuts.{cut}
+use Rattle.sx_bits.proofs.Cuts.{cut_total}
+use Rattle.sx_bits.proofs.Faultless.{room_for, pushed_fields, pushed_keys}
 use Rattle.sx_bits.proofs.keys.KeyList.push.Goals as goal
 
-pub first_fault-requires-clause-room : goal.first_fault-requires-clause-room
-first_fault-requires-clause-room c =
-    let valid = c.self.invariant.0 in
-    let all = c.self.invariant.1 in
-    let few = (key_file _ valid).bytes in
-    let most = valid.limits.bytes in
-    let long = valid.limits.line in
-    let same = ap (λ (keys : Keys). keys.limits.max_line) c.self.view_is in
+pub append-requires : goal.append-requires
+append-requires c =
+    let free : refusal c.self.inside.limits (cut 0 c.self.inside.ends.items c.self.inside.bytes.items) c.args.line.now ≡ None =
+    ap (λ (keys : Keys). refusal keys.limits keys.lines c.args.line.now) c.self.view_is ∙ c.in-None.ensures in
+    let room = room_for c.self.inside.limits (cut 0 c.self.inside.ends.items c.self.inside.bytes.items) c.args.line.now free in
+    let all = cut_total 0 c.self.inside.ends.items c.self.inside.bytes.items c.self.invariant.1 in
+    let most = c.self.invariant.0.limits.bytes in
     omega arith
 
 pub invariant_of-self-2 : goal.invariant_of-self-2
 invariant_of-self-2 c =
-    pushed_list c.self.inside.limits c.self.inside.lines.items c.deref.result.now c.args.line.now c.in_ok-copy.copy c.push.new.self.items c.self.inside.bytes (is_ok c.push.result)
-    c.self.invariant c.deref.ensures.value c.in_default.ensures (ap is_ok c.in-Ok.is) c.in_ok-copy.ensures c.push.ensures.items (λ i. omega (arith, c.type_inv.line i))
+    let free : refusal c.self.inside.limits (cut 0 c.self.inside.ends.items c.self.inside.bytes.items) c.args.line.now ≡ None =
+    ap (λ (keys : Keys). refusal keys.limits keys.lines c.args.line.now) c.self.view_is ∙ c.in-None.ensures in
+    pushed_fields c.self.inside.limits c.self.inside.bytes.items c.self.inside.ends.items c.args.line.now c.append.new.bytes.items c.append.new.ends.items
+    c.self.invariant free (λ i. omega (arith, c.type_inv.line i)) c.in-Ok.ensures.bytes_after c.in-Ok.ensures.ends_after
+
+pub returns-clause-ok : goal.returns-clause-ok
+returns-clause-ok c =
+    pushed_keys c.args.self.now c.self.inside.limits c.self.inside.bytes.items c.self.inside.ends.items c.args.line.now c.append.new.bytes.items c.append.new.ends.items
+    c.self.invariant.1 c.self.view_is c.in-Ok.ensures.bytes_after c.in-Ok.ensures.ends_after
