@@ -1,0 +1,9 @@
+pub mod Equals
+pub mod Numerals
+pub mod Singles
+pub mod Splits
+pub mod Verdicts
+pub mod Plans
+pub mod Formed
+pub mod Readings
+pub mod Offered

@@ -1,0 +1,162 @@
+-- What a plan is that the program offers: that of a static function.
+use Rattle.std.proofs.Common.{◌≡◌, ℕ, ◌≤◌, ◌^◌, Bool, true, false, ◌&&◌, ◌||◌, List, [], ◌∷◌, length, Option, Some, None, ◌∙◌, refl, sym, ap, subst, arith, lit≤}
+use Rattle.std.specs.Prelude.{not, find, drop, slice_get, codes, unwrap_or, option_map, option_and_then, if◌then◌else◌}
+use Rattle.std.specs.List.{list_all, list_any}
+use Rattle.std.specs.Str.{bytes_eq}
+use Rattle.std.proofs.lemmas.Bool.{and_parts}
+use Rattle.std.proofs.lemmas.Slice.Eq.{bytes_eq-Decides}
+use Rattle.sx_spec_kinds.specs.declared.Kind.{Kind}
+use Rattle.sx_spec_kinds.specs.declared.Kind.TheVariants.{Func}
+use Rattle.sx_spec.specs.declared.OptionName.{OptionName}
+use Rattle.sx_spec.specs.declared.OptionName.TheVariants.{Seeds, Method as MethodName, LogBucket, SigBits, HandleBits, Signed, Values}
+use Rattle.sx_spec.specs.declared.Plan.{Plan}
+use Rattle.sx_spec.specs.declared.Rule.{Rule}
+use Rattle.sx_spec.specs.declared.Rule.TheVariants.{UnknownCommand, UnknownKind, BadWords}
+use Rattle.sx_spec.specs.Kinds.{kind_word}
+use Rattle.sx_spec.specs.Values.{number_below}
+use Rattle.sx_spec.specs.Layout.{kinds}
+use Rattle.sx_spec.specs.Command.{Text, Setting, Split, BuildTask, Task, usage, build, query, open_dump, show_dump, command, verbs, verb_task, for_split, for_kind, unless, trial_task, number_within, well_formed, split_words, split_plain, positional, setting, same_option, kind_named, options_rule, option_names, build_task, plan_of, number_of, goes_with}
+use Rattle.sx_spec_program.specs.Offer.{offered, offered_build, offers_options, offers_kind_word}
+use Rattle.sx_spec_program.specs.Program.{func_offer}
+use Rattle.sx_words.specs.Rules.{has_bad_value}
+use Rattle.sx_words.proofs.Plans.{no_rule, none_found, number_fits}
+use Rattle.sx_words.proofs.Verdicts.{rule_is}
+
+-- ---- the pieces
+
+-- the only kind that is offered
+only_func : (word : Text) (kind : Kind) → offers_kind_word func_offer word ≡ true → kind_named word ≡ Some kind → kind ≡ Func
+only_func word kind offers named = by_test (bytes_eq (kind_word Func) word) (λ k. bytes_eq (kind_word k) word) offers named
+  where
+    by_test : (b : Bool) (p : Kind → Bool) → (b || false) ≡ true → (if b then Some Func else find p (drop 1 kinds)) ≡ Some kind → kind ≡ Func
+    by_test true p o n = cc
+    by_test false p o n = absurd cc
+
+-- a signed width isn't offered
+no_signed : (settings : List Setting) → list_all (λ t. list_any (same_option t.name) func_offer.options) settings ≡ true → find (λ t. same_option Signed t.name) settings ≡ None
+no_signed [] offers = refl
+no_signed (t ∷ settings) offers = by_name t.name t refl (no_signed settings rest)
+  where
+    rest : list_all (λ t. list_any (same_option t.name) func_offer.options) settings ≡ true
+    rest = (and_parts (list_any (same_option t.name) func_offer.options) (list_all (λ t. list_any (same_option t.name) func_offer.options) settings) offers).1
+
+    here : list_any (same_option t.name) func_offer.options ≡ true
+    here = (and_parts (list_any (same_option t.name) func_offer.options) (list_all (λ t. list_any (same_option t.name) func_offer.options) settings) offers).0
+
+    by_name : (name : OptionName) (x : Setting) → name ≡ t.name → find (λ t. same_option Signed t.name) settings ≡ None → (if same_option Signed name then Some x else find (λ t. same_option Signed t.name) settings) ≡ None
+    by_name Seeds x is more = more
+    by_name MethodName x is more = more
+    by_name LogBucket x is more = more
+    by_name SigBits x is more = more
+    by_name HandleBits x is more = more
+    by_name Signed x is more = absurd (let h : list_any (same_option Signed) func_offer.options ≡ true = ap (λ (n : OptionName). list_any (same_option n) func_offer.options) is ∙ here in cc)
+    by_name Values x is more = more
+
+-- ---- the command
+
+-- the split and the kind of which a build comes
+pub record IsBuildOf (rest : List Text) (b : BuildTask) : Type 0 where
+  pub split : Split
+  pub kind : Kind
+  pub formed : well_formed 2 (split_words rest) ≡ Some split
+  pub named : kind_named (positional split 0) ≡ Some kind
+  pub free : options_rule split kind ≡ None
+  pub is : b ≡ build_task split kind
+
+-- the task of the verb `build`
+build_verb : (rest : List Text) (b : BuildTask) → for_split (well_formed 2 (split_words rest)) (λ s. for_kind (positional s 0) (λ kind. unless (options_rule s kind) (build (build_task s kind)))) ≡ build b → IsBuildOf rest b
+build_verb rest b e = by_split (well_formed 2 (split_words rest)) refl e
+  where
+    by_rule : (s : Split) (kind : Kind) (o : Option Rule) → well_formed 2 (split_words rest) ≡ Some s → kind_named (positional s 0) ≡ Some kind → options_rule s kind ≡ o → unless o (build (build_task s kind)) ≡ build b → IsBuildOf rest b
+    by_rule s kind None formed named free h = record { split = s; kind = kind; formed = formed; named = named; free = free; is = (let same : build_task s kind ≡ b = cc in sym same) }
+    by_rule s kind (Some rule) formed named free h = absurd cc
+
+    by_kind : (s : Split) (o : Option Kind) → well_formed 2 (split_words rest) ≡ Some s → kind_named (positional s 0) ≡ o
+        → elim o [ None ↦ usage UnknownKind | Some kind ↦ unless (options_rule s kind) (build (build_task s kind)) ] ≡ build b → IsBuildOf rest b
+    by_kind s None formed named h = absurd cc
+    by_kind s (Some kind) formed named h = by_rule s kind (options_rule s kind) formed named refl h
+
+    by_split : (o : Option Split) → well_formed 2 (split_words rest) ≡ o → for_split o (λ s. for_kind (positional s 0) (λ kind. unless (options_rule s kind) (build (build_task s kind)))) ≡ build b → IsBuildOf rest b
+    by_split None formed h = absurd cc
+    by_split (Some s) formed h = by_kind s (kind_named (positional s 0)) formed refl h
+
+-- no other verb comes to a build
+no_other : {P : Type 0} (o : Option Split) (next : Split → Task) (b : BuildTask) → ((s : Split) → next s ≡ build b → P) → for_split o next ≡ build b → P
+no_other None next b never e = absurd cc
+no_other (Some s) next b never e = never s e
+
+no_trial : {P : Type 0} (s : Split) (b : BuildTask) → for_kind (positional s 0) (λ kind. trial_task kind (number_within 0 1000000 (positional s 1))) ≡ build b → P
+no_trial {P = P} s b e = by_kind (kind_named (positional s 0)) e
+  where
+    by_number : (kind : Kind) (o : Option ℕ) → trial_task kind o ≡ build b → P
+    by_number kind None h = absurd cc
+    by_number kind (Some n) h = absurd cc
+
+    by_kind : (o : Option Kind) → elim o [ None ↦ usage UnknownKind | Some kind ↦ trial_task kind (number_within 0 1000000 (positional s 1)) ] ≡ build b → P
+    by_kind None h = absurd cc
+    by_kind (Some kind) h = by_number kind (number_within 0 1000000 (positional s 1)) h
+
+-- a command that comes to a build has the word `build`
+build_word : (word : Text) (rest : List Text) (b : BuildTask) → command (word ∷ rest) ≡ build b → (bytes_eq (codes "build") word ≡ true) × IsBuildOf rest b
+build_word word rest b e = by_tests (bytes_eq (codes "build") word) refl (bytes_eq (codes "query") word) (bytes_eq (codes "open") word) (bytes_eq (codes "dump") word) (bytes_eq (codes "trial") word) e
+  where
+    by_tests : (v : Bool) → bytes_eq (codes "build") word ≡ v → (w x y z : Bool)
+        → verb_task (if v then slice_get verbs 0 else if w then slice_get verbs 1 else if x then slice_get verbs 2 else if y then slice_get verbs 3 else if z then slice_get verbs 4 else None) rest ≡ build b → (bytes_eq (codes "build") word ≡ true) × IsBuildOf rest b
+    by_tests true is w x y z h = (is, build_verb rest b h)
+    by_tests false is true x y z h = no_other (well_formed 1 (split_plain rest)) (λ s. query (positional s 0)) b (λ s q. absurd cc) h
+    by_tests false is false true y z h = no_other (well_formed 1 (split_plain rest)) (λ s. open_dump (positional s 0)) b (λ s q. absurd cc) h
+    by_tests false is false false true z h = no_other (well_formed 1 (split_plain rest)) (λ s. show_dump (positional s 0)) b (λ s q. absurd cc) h
+    by_tests false is false false false true h = no_other (well_formed 2 (split_plain rest)) (λ s. for_kind (positional s 0) (λ kind. trial_task kind (number_within 0 1000000 (positional s 1)))) b (λ s q. no_trial s b q) h
+    by_tests false is false false false false h = absurd cc
+
+-- ---- the plan
+
+-- the plan of a static function
+pub record IsFuncPlan (plan : Plan) : Type 0 where
+  pub kind : plan.kind ≡ Func
+  pub unsigned : plan.signed ≡ 0
+  pub buckets : plan.log_bucket ≡ 0
+  pub handles : plan.handle_bits ≡ 0
+  pub bits : plan.sig_bits ≤ 192
+
+func_fits : (s : Split) → offers_options func_offer s ≡ true → options_rule s Func ≡ None → IsFuncPlan (plan_of s Func)
+func_fits s offers free =
+    let good = none_found (has_bad_value s) option_names (no_rule (find (has_bad_value s) option_names) _ _ (sym (rule_is s Func) ∙ free)) in
+    record {
+      kind = refl;
+      unsigned = ap (λ (o : Option Setting). unwrap_or (option_and_then (number_below (2 ^ 64)) (option_map (λ (t : Setting). t.value) o)) 0) (no_signed s.settings offers);
+      buckets = refl;
+      handles = refl;
+      bits = number_fits true (setting s SigBits) 0 192 192 192 (lit≤ tt) (lit≤ tt) good.1.1.1.0;
+    }
+
+-- the words of a build ask for the plan of a static function
+pub plan_fits : (words : List Text) (b : BuildTask) → offered func_offer words ≡ build b → IsFuncPlan b.plan
+plan_fits [] b e = absurd cc
+plan_fits (word ∷ rest) b e = by_tests (not (list_any (bytes_eq word) func_offer.commands)) (bytes_eq word (codes "build")) refl e
+  where
+    by_offer : (s : Split) → well_formed 2 (split_words rest) ≡ Some s → (x : Bool) → offers_options func_offer s ≡ x → (y : Bool) → offers_kind_word func_offer (positional s 0) ≡ y
+        → (if not x then usage BadWords else if not y then usage UnknownKind else command (word ∷ rest)) ≡ build b → IsFuncPlan b.plan
+    by_offer s formed false a y c h = absurd cc
+    by_offer s formed true a false c h = absurd cc
+    by_offer s formed true a true c h =
+        let built = (build_word word rest b h).1 in
+        let same : built.split ≡ s = (let both : Some built.split ≡ Some s = sym built.formed ∙ formed in cc) in
+        let options : offers_options func_offer built.split ≡ true = rw same a in
+        let kind_is : built.kind ≡ Func = only_func (positional built.split 0) built.kind (rw same c) built.named in
+        let free : options_rule built.split Func ≡ None = rw kind_is at built.free in
+        let is : b ≡ build_task built.split Func = rw kind_is at built.is in
+        subst (λ (t : BuildTask). IsFuncPlan t.plan) (sym is) (func_fits built.split options free)
+
+    by_split : (o : Option Split) → well_formed 2 (split_words rest) ≡ o → offered_build func_offer o (command (word ∷ rest)) ≡ build b → IsFuncPlan b.plan
+    by_split None formed h = absurd (let built = (build_word word rest b h).1 in let both : Some built.split ≡ None = sym built.formed ∙ formed in cc)
+    by_split (Some s) formed h = by_offer s formed (offers_options func_offer s) refl (offers_kind_word func_offer (positional s 0)) refl h
+
+    by_tests : (a v : Bool) → bytes_eq word (codes "build") ≡ v
+        → (if a then usage UnknownCommand else if v then offered_build func_offer (well_formed 2 (split_words rest)) (command (word ∷ rest)) else command (word ∷ rest)) ≡ build b → IsFuncPlan b.plan
+    by_tests true v is h = absurd cc
+    by_tests false true is h = by_split (well_formed 2 (split_words rest)) refl h
+    by_tests false false is h = absurd (
+        let word_is : codes "build" ≡ word = (bytes_eq-Decides (codes "build") word).0 ((build_word word rest b h).0) in
+        let again : bytes_eq word (codes "build") ≡ true = (bytes_eq-Decides word (codes "build")).1 (sym word_is) in
+        let both : true ≡ false = sym again ∙ is in cc)

@@ -1,0 +1,184 @@
+//! Words and the tasks that they are.
+
+use crate::numbers::number_of;
+use crate::{Method, OptionName, Rule, Task, read_words};
+use std::alloc::{AllocError, Global};
+use std::process::Abort;
+use std::test::Fail;
+use sx_edge::words::WordList;
+
+/// The words between the blanks of a line; two blanks stand around an empty word.
+fn words_of(alloc: Global, line: &str) -> Result<WordList, AllocError> {
+    let mut words = WordList::new(alloc);
+    if !line.is_empty() {
+        for word in line.split(' ') {
+            words.push(word)?;
+        }
+    }
+    Ok(words)
+}
+
+fn task(alloc: Global, line: &str) -> Result<Task, AllocError> {
+    read_words(alloc, &words_of(alloc, line)?)
+}
+
+/// The rule that the words break.
+fn rule(alloc: Global, line: &str) -> Result<Option<Rule>, AllocError> {
+    match task(alloc, line)? {
+        Task::Usage(rule) => Ok(Some(rule)),
+        _ => Ok(None),
+    }
+}
+
+#[test]
+fn refused_words(rt: HostRuntime) -> Result<(), Fail> {
+    let alloc = rt.alloc();
+    let bad_seeds = Some(Rule::BadValue(OptionName::Seeds));
+    let cases = [
+        ("", Some(Rule::NoCommand)),
+        ("frob", Some(Rule::UnknownCommand)),
+        ("trial func 3", Some(Rule::UnknownCommand)),
+        ("build lcp", Some(Rule::BadWords)),
+        ("build func D E", Some(Rule::BadWords)),
+        ("build func  ", Some(Rule::BadWords)),
+        ("build func -D", Some(Rule::BadWords)),
+        ("build lcp D --seeds 1 --seeds 2", Some(Rule::BadWords)),
+        ("build func D --seeds", Some(Rule::BadWords)),
+        ("build func D --seeds=", Some(Rule::BadWords)),
+        ("build func D --seeds --values", Some(Rule::BadWords)),
+        ("build tree D --signed 8", Some(Rule::BadWords)),
+        ("build func D --log-bucket 5", Some(Rule::BadWords)),
+        ("build func D --frob 5", Some(Rule::BadWords)),
+        ("build tree D", Some(Rule::UnknownKind)),
+        ("build lcp D --sig-bits 193", Some(Rule::UnknownKind)),
+        (
+            "build func D --sig-bits 193",
+            Some(Rule::BadValue(OptionName::SigBits)),
+        ),
+        (
+            "build func D --sig-bits 007",
+            Some(Rule::BadValue(OptionName::SigBits)),
+        ),
+        (
+            "build func D --method gov4 --sig-bits 193",
+            Some(Rule::BadValue(OptionName::Method)),
+        ),
+        ("build func D --seeds 1,,2", bad_seeds),
+        ("build func D --seeds 1,", bad_seeds),
+        ("build func D --seeds 18446744073709551616", bad_seeds),
+        (
+            "build func D --seeds 1,2,3,4,5,6,7,8,9,10,11,12,13,14,15,16,17",
+            bad_seeds,
+        ),
+        ("query", Some(Rule::BadWords)),
+        ("open -D", Some(Rule::BadWords)),
+        ("dump D E", Some(Rule::BadWords)),
+        ("build func D", None),
+    ];
+    for (line, wanted) in cases {
+        assert_eq!(rt; rule(alloc, line)?, wanted, "{line}");
+    }
+    Ok(())
+}
+
+/// Checks a build of the dump D.
+fn check_build<R: Abort>(
+    rt: &R,
+    task: &Task,
+    seeds: &[u64],
+    method: Method,
+    sig_bits: u32,
+    values: Option<&str>,
+) {
+    match task {
+        Task::Build(build) => {
+            assert_eq!(rt; build.seeds.as_slice(), seeds);
+            assert!(rt; build.plan.method == method);
+            assert_eq!(rt; build.plan.sig_bits, sig_bits);
+            assert_eq!(rt; build.plan.log_bucket, 0);
+            assert_eq!(rt; build.plan.signed, 0);
+            assert_eq!(rt; build.dump.as_str(), "D");
+            match (&build.values, values) {
+                (Some(given), Some(wanted)) => assert_eq!(rt; given.as_str(), wanted),
+                (None, None) => {}
+                _ => assert!(rt; false, "values"),
+            }
+        }
+        _ => assert!(rt; false, "no build"),
+    }
+}
+
+#[test]
+fn builds(rt: HostRuntime) -> Result<(), Fail> {
+    let alloc = rt.alloc();
+    check_build(
+        &rt,
+        &task(alloc, "build func D")?,
+        &[0, 1, 2, 3],
+        Method::Mwhc,
+        192,
+        None,
+    );
+    check_build(
+        &rt,
+        &task(alloc, "build func --seeds=7,8 D --sig-bits 0")?,
+        &[7, 8],
+        Method::Mwhc,
+        0,
+        None,
+    );
+    check_build(
+        &rt,
+        &task(alloc, "build --values=a=b func D --method=gov3")?,
+        &[0, 1, 2, 3],
+        Method::Gov3,
+        192,
+        Some("a=b"),
+    );
+    check_build(
+        &rt,
+        &task(alloc, "build func D --seeds 18446744073709551615")?,
+        &[u64::MAX],
+        Method::Mwhc,
+        192,
+        None,
+    );
+    Ok(())
+}
+
+#[test]
+fn names_of_dumps(rt: HostRuntime) -> Result<(), Fail> {
+    let alloc = rt.alloc();
+    match task(alloc, "query D")? {
+        Task::Query(dump) => assert_eq!(rt; dump.as_str(), "D"),
+        _ => assert!(rt; false),
+    }
+    match task(alloc, "open d/e.sux")? {
+        Task::Open(dump) => assert_eq!(rt; dump.as_str(), "d/e.sux"),
+        _ => assert!(rt; false),
+    }
+    match task(alloc, "dump D")? {
+        Task::Dump(dump) => assert_eq!(rt; dump.as_str(), "D"),
+        _ => assert!(rt; false),
+    }
+    Ok(())
+}
+
+#[test]
+fn numbers(rt: HostRuntime) {
+    let cases: [(&str, Option<u64>); 10] = [
+        ("0", Some(0)),
+        ("10", Some(10)),
+        ("18446744073709551615", Some(u64::MAX)),
+        ("18446744073709551616", None),
+        ("99999999999999999999999999999999999999999", None),
+        ("", None),
+        ("00", None),
+        ("+1", None),
+        ("1 ", None),
+        ("1:", None),
+    ];
+    for (text, wanted) in cases {
+        assert_eq!(rt; number_of(text.as_bytes()), wanted, "{text}");
+    }
+}
