@@ -1,0 +1,10 @@
+pub mod Cells
+pub mod Functions
+pub mod Pieces
+pub mod Signing
+pub mod Headers
+pub mod Openings
+pub mod Replies
+pub mod Showing
+pub mod Tables
+pub mod Texts

@@ -1,0 +1,34 @@
+use Rattle.std.proofs.Common.{arith}
+use Rattle.sx_spec.specs.StaticFunction.{Chunk}
+use Rattle.sx_static.specs.Viewing.{viewed}
+use Rattle.sx_dump.specs.Showing.{chunk_line}
+use Rattle.sx_dump.proofs.Showing.{turn_cut, turn_shown, turns_shown}
+use Rattle.sx_dump.proofs.Tables.{chunks_count}
+use Rattle.sx_dump.proofs.show.show_chunks.Goals as goal
+
+pub chunks-preserved : goal.chunks-preserved
+chunks-preserved g c =
+    let v = c.args.values.now in
+    let chunks = (viewed (g.B.WordBank.words_of v.bank) v.first v.width v.pairs).chunks in
+    let chunk : Chunk = record { segment = c.chunk_at-segment.result.0; try = c.chunk_at-segment.result.1 } in
+    record {
+      shown = turn_shown (λ p. chunk_line p.0 p.1) c.args.page.now.bytes chunks c.chunks.i (g.O.Sink.written c.args.out.now) (g.O.Sink.written c.chunks.out) (g.O.Sink.written c.make_room.new.out) chunk
+          c.chunks.page.bytes c.make_room.new.page.bytes c.put_chunk.new.page.bytes c.chunks.invariant.shown c.in-Ok.ensures.ok c.put_chunk.ensures c.chunk_at-segment.ensures;
+      later = omega (arith, c.chunks.invariant.later, c.in-Ok.ensures.cause.later);
+    }
+
+pub returns-in-Err-clause-failed : goal.returns-in-Err-clause-failed
+returns-in-Err-clause-failed g c =
+    let v = c.args.values.now in
+    let chunks = (viewed (g.B.WordBank.words_of v.bank) v.first v.width v.pairs).chunks in
+    turn_cut (λ p. chunk_line p.0 p.1) c.args.page.now.bytes chunks c.chunks.i (g.O.Sink.written c.args.out.now) (g.O.Sink.written c.chunks.out) (g.O.Sink.written c.make_room.new.out)
+    c.chunks.page.bytes c.chunks.invariant.shown c.in-Err.ensures.failed
+
+pub returns-clause-ok : goal.returns-clause-ok
+returns-clause-ok g c =
+    let v = c.args.values.now in
+    let words = g.B.WordBank.words_of v.bank in
+    let chunks = (viewed words v.first v.width v.pairs).chunks in
+    let count = chunks_count words v.first v.width v.pairs v.stands in
+    turns_shown (λ p. chunk_line p.0 p.1) c.args.page.now.bytes chunks c.chunks.i (g.O.Sink.written c.args.out.now) (g.O.Sink.written c.chunks.out) c.chunks.page.bytes
+    (omega (arith, count, c.chunk_count-i-end.ensures.value, c.chunks-test.false)) c.chunks.invariant.shown

@@ -1,0 +1,161 @@
+//! Small dumps that are opened and shown, and files that are none.
+ghost use Rattle.std.specs.Prelude.{◌≡◌, ◌<◌, ◌≤◌, length};
+ghost use Rattle.std.specs.Int.{div_ceil};
+
+use crate::{Dump, OpenFault, open_dump};
+use std::alloc::Global;
+use std::marker::Brand;
+use std::sync::ledger::{Blank, Ledger};
+use std::test::Fail;
+use sx_edge::memory::sink::MemSink;
+use sx_fields::bank::{WordBank, Words};
+use sx_sig::Kind;
+use sx_steps::Steps;
+
+/// The dump of a function without keys.
+const EMPTY: [u64; 14] = [
+    0x3150_4D55_4458_5553,
+    14,
+    0,
+    0,
+    0,
+    0,
+    192,
+    0,
+    0,
+    0,
+    0,
+    0,
+    0,
+    0,
+];
+
+/// The dump of a function whose six cells are all 5.
+const FIVES: [u64; 15] = [
+    0x3150_4D55_4458_5553,
+    15,
+    0,
+    1,
+    1,
+    7,
+    192,
+    0,
+    0,
+    0,
+    8,
+    1,
+    0,
+    6,
+    0x0505_0505_0505,
+];
+
+/// The number of the check that fails, 0 where the file is opened, or 255.
+fn failing(alloc: Global, words: &[u64], bytes: u64) -> u8
+    requires { length words.now ≡ div_ceil bytes 8 }
+{
+    match open_dump(alloc, words, bytes, Words::new(words)) {
+        Ok(_) => 0,
+        Err(OpenFault::Malformed { check }) => check,
+        Err(OpenFault::Memory) => 255,
+    }
+}
+
+/// The number of the check that fails where word `i` of the dump without keys is another.
+fn changed(alloc: Global, i: usize, word: u64) -> u8
+    requires { i < 14 }
+{
+    let mut words = EMPTY;
+    words[i] = word;
+    failing(alloc, &words, 112)
+}
+
+fn counted<B: WordBank + Copy, L: Ledger>(dump: &Dump<B>, line: &[u8], blank: Blank) -> i128
+    requires name { blank.name ≡ L.name }
+    requires parts { blank.parts ≡ L.parts }
+    requires some { 0 < blank.parts }
+    requires short { length line.now ≤ 8191 }
+{
+    let mut steps = Steps::<L>::new(blank);
+    dump.reply(line, &mut steps)
+}
+
+fn reply<B: WordBank + Copy>(dump: &Dump<B>, line: &[u8]) -> i128
+    requires { length line.now ≤ 8191 }
+{
+    counted::<B, Brand>(dump, line, Blank::new(1))
+}
+
+#[test]
+fn headers_are_checked(rt: HostRuntime) -> Result<(), Fail> {
+    let alloc = rt.alloc();
+    assert_eq!(rt; failing(alloc, &EMPTY, 112), 0);
+    assert_eq!(rt; failing(alloc, &EMPTY[..9], 72), 1);
+    assert_eq!(rt; failing(alloc, &FIVES[..14], 111), 1);
+    assert_eq!(rt; changed(alloc, 0, 0), 2);
+    assert_eq!(rt; changed(alloc, 1, 15), 3);
+    assert_eq!(rt; changed(alloc, 2, 1), 4);
+    assert_eq!(rt; changed(alloc, 2, 6), 4);
+    assert_eq!(rt; changed(alloc, 3, 2), 5);
+    assert_eq!(rt; changed(alloc, 4, 1 << 32), 6);
+    assert_eq!(rt; changed(alloc, 6, 193), 7);
+    assert_eq!(rt; changed(alloc, 7, 1), 8);
+    assert_eq!(rt; changed(alloc, 8, 65), 9);
+    assert_eq!(rt; changed(alloc, 8, 8), 9);
+    assert_eq!(rt; changed(alloc, 9, 1), 10);
+    Ok(())
+}
+
+#[test]
+fn sections_are_checked(rt: HostRuntime) -> Result<(), Fail> {
+    let alloc = rt.alloc();
+    assert_eq!(rt; changed(alloc, 11, 1), 12);
+    assert_eq!(rt; changed(alloc, 10, 65), 13);
+    assert_eq!(rt; changed(alloc, 13, 1), 14);
+    let mut longer = [0; 15];
+    longer[..14].copy_from_slice(&EMPTY);
+    assert_eq!(rt; failing(alloc, &longer, 120), 3);
+    longer[1] = 15;
+    assert_eq!(rt; failing(alloc, &longer, 120), 18);
+    Ok(())
+}
+
+#[test]
+fn dumps_reply(rt: HostRuntime) -> Result<(), Fail> {
+    let alloc = rt.alloc();
+    match open_dump(alloc, &EMPTY, 112, Words::new(&EMPTY)) {
+        Ok(dump) => assert_eq!(rt; reply(&dump, b"a"), 0),
+        Err(fault) => assert!(rt; false, "{fault}"),
+    }
+    match open_dump(alloc, &FIVES, 120, Words::new(&FIVES)) {
+        Ok(dump) => {
+            assert!(rt; dump.kind() == Kind::Func);
+            assert_eq!(rt; (dump.keys(), dump.seed(), dump.words()), (1, 7, 15));
+            assert_eq!(rt; reply(&dump, b"a"), 5);
+        }
+        Err(fault) => assert!(rt; false, "{fault}"),
+    }
+    Ok(())
+}
+
+/// A sink with so much room that the dump without keys was shown to, and whether that failed.
+fn shown(alloc: Global, room: usize) -> Result<(MemSink, bool), Fail> {
+    let mut out = MemSink::new(alloc, room, 100, Vec::new(alloc))?;
+    let failed = match open_dump(alloc, &EMPTY, 112, Words::new(&EMPTY)) {
+        Ok(dump) => dump.show(&mut out).is_err(),
+        Err(_) => true,
+    };
+    Ok((out, failed))
+}
+
+#[test]
+fn dumps_are_shown(rt: HostRuntime) -> Result<(), Fail> {
+    let text =
+        b"layout 1\nkind func\nmethod mwhc\nkeys 0\nseed 0\nsig-bits 192\nlog-bucket 0\nsigned 0\nhandle-bits 0\nfunction values width 0 pairs 0 chunks 1 cells 0\nchunk 0 segment 0 try 0\n".as_slice();
+    let (out, failed) = shown(rt.alloc(), 4096)?;
+    assert!(rt; !failed);
+    assert_eq!(rt; out.bytes(), text);
+    let (out, failed) = shown(rt.alloc(), 10)?;
+    assert!(rt; failed);
+    assert_eq!(rt; out.bytes(), &text[..10]);
+    Ok(())
+}

@@ -1,0 +1,160 @@
+//! Words of small dumps, and words in a file.
+
+use crate::{Assembled, PartCause, PartFault, assemble, put_words, words_of};
+use std::process::Abort;
+use std::test::Fail;
+use sx_bits::KeyList;
+use sx_edge::memory::shelf::MemShelf;
+use sx_edge::shelf::Shelf;
+use sx_sig::{Kind, Method, Plan};
+use sx_spec::Limits;
+
+#[test]
+fn words_of_nine_bytes(rt: HostRuntime) -> Result<(), Fail> {
+    let words = words_of(rt.alloc(), &[1, 2, 0, 0, 0, 0, 0, 128, 255])?;
+    assert_eq!(rt; words.as_slice(), [0x8000_0000_0000_0201, 255].as_slice());
+    Ok(())
+}
+
+#[test]
+fn words_in_a_file(rt: HostRuntime) -> Result<(), Fail> {
+    let mut words = vec![in rt.alloc(); 1u64; 1025]?;
+    words[1024] = 0x0807_0605_0403_0201;
+    let mut files = MemShelf::new(rt.alloc(), Vec::new(rt.alloc()));
+    files.room("D", 8200)?;
+    files.create("D")?;
+    put_words(&mut files, &words)?;
+    files.close()?;
+    let bytes = files.bytes("D").ok_or("none")?;
+    assert_eq!(rt; bytes.len(), 8200);
+    assert_eq!(rt;
+        &bytes[8184..],
+        [1, 0, 0, 0, 0, 0, 0, 0, 1, 2, 3, 4, 5, 6, 7, 8].as_slice()
+    );
+    assert_eq!(rt; files.calls(), 4);
+    Ok(())
+}
+
+/// Keys of at most 8,191 bytes, in order.
+fn keys_of(rt: &(impl Abort + AllocGlobal), lines: &[&[u8]]) -> Result<KeyList, Fail> {
+    let mut keys = KeyList::new(rt.alloc(), Limits::standard());
+    for line in lines {
+        assert!(rt; line.len() <= 8191);
+        assert!(rt; matches!(keys.push(line), Ok(())));
+    }
+    Ok(keys)
+}
+
+/// What keys and values come to with seed 0 and signatures of so many bits.
+fn assembled(
+    rt: &(impl Abort + AllocGlobal),
+    plan: (Method, u32),
+    lines: &[&[u8]],
+    values: &[u64],
+) -> Result<Assembled, Fail> {
+    let keys = keys_of(rt, lines)?;
+    let plan = Plan {
+        kind: Kind::Func,
+        method: plan.0,
+        log_bucket: 0,
+        sig_bits: plan.1,
+        handle_bits: 0,
+        signed: 0,
+    };
+    assert!(rt; plan.sig_bits <= 192);
+    assert!(rt; values.len() == keys.len() as usize);
+    Ok(assemble(rt.alloc(), &keys, values, &plan, 0)?)
+}
+
+/// The words of the dump of keys and values, for which seed 0 works.
+fn words_with(
+    rt: &(impl Abort + AllocGlobal),
+    method: Method,
+    lines: &[&[u8]],
+    values: &[u64],
+) -> Result<Vec<u64>, Fail> {
+    let words = match assembled(rt, (method, 192), lines, values)? {
+        Assembled::Words(words) => Some(words),
+        Assembled::SeedFailed(_) => None,
+    };
+    Ok(words.ok_or("the seed fails")?)
+}
+
+/// The part and the numbers of twins.
+fn twins_in(fault: PartFault) -> Option<(u32, u32, u32)> {
+    let PartFault { part, cause } = fault;
+    match cause {
+        PartCause::Twins { first, second } => Some((part, first, second)),
+        PartCause::Stuck { .. } => None,
+    }
+}
+
+#[test]
+fn no_keys(rt: HostRuntime) -> Result<(), Fail> {
+    let words = words_with(&rt, Method::Mwhc, &[], &[])?;
+    let want = [
+        0x3150_4D55_4458_5553,
+        14,
+        0,
+        0,
+        0,
+        0,
+        192,
+        0,
+        0,
+        0,
+        0,
+        0,
+        0,
+        0,
+    ];
+    assert_eq!(rt; words.as_slice(), want.as_slice());
+    Ok(())
+}
+
+#[test]
+fn the_longest_key(rt: HostRuntime) -> Result<(), Fail> {
+    let line = vec![in rt.alloc(); b'x'; 8191]?;
+    let words = words_with(&rt, Method::Gov3, &[&line], &[0])?;
+    let want = [
+        0x3150_4D55_4458_5553,
+        14,
+        0,
+        1,
+        1,
+        0,
+        192,
+        0,
+        0,
+        0,
+        0,
+        1,
+        0,
+        6,
+    ];
+    assert_eq!(rt; words.as_slice(), want.as_slice());
+    Ok(())
+}
+
+#[test]
+fn widths_of_values(rt: HostRuntime) -> Result<(), Fail> {
+    let words = words_with(&rt, Method::Mwhc, &[b"a", b"b"], &[10, 7])?;
+    assert_eq!(rt; words.len(), 15);
+    assert_eq!(rt; words.get(10), Some(&4));
+    assert_eq!(rt; words.get(13), Some(&6));
+    let words = words_with(&rt, Method::Mwhc, &[b"a"], &[u64::MAX])?;
+    assert_eq!(rt; words.len(), 20);
+    assert_eq!(rt; words.get(10), Some(&64));
+    Ok(())
+}
+
+#[test]
+fn signatures_of_no_bits_are_twins(rt: HostRuntime) -> Result<(), Fail> {
+    let lines: [&[u8]; 3] = [b"a", b"b", b"c"];
+    let twins = match assembled(&rt, (Method::Mwhc, 0), &lines, &[0, 1, 2])? {
+        Assembled::SeedFailed(fault) => twins_in(fault),
+        Assembled::Words(_) => None,
+    };
+    assert_eq!(rt; twins, Some((0, 0, 1)));
+    Ok(())
+}
