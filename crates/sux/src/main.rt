@@ -15,7 +15,6 @@ use std::process::ExitCode;
 use std::sync::ledger::{Blank, Ledger};
 use std::{env, io};
 use sx_cli::Status;
-use sx_cli::messages::usage_message;
 use sx_cli::run::run;
 use sx_cli::telling::tell;
 use sx_edge::words::WordList;
@@ -79,7 +78,7 @@ fn main(host: HostRuntime) -> ExitCode {
         // a word that isn't text is no word of a command
         Err(_) => tell(
             &mut OutputStream::new(host.stderr()),
-            &usage_message(),
+            b"sux: usage: bad words\n",
             Status::Usage,
         ),
     };

@@ -2,11 +2,11 @@
 use Rattle.std.proofs.Common.{◌≡◌, ◌≢◌, ℕ, ◌+◌, ◌<◌, ◌≤◌, Bool, true, List, [], ◌∷◌, ◌++◌, length, refl, sym, ap, subst, ◌∙◌, arith, inl, inr, ◌⊎◌, Option, Some, None}
 use Rattle.std.specs.Prelude.{IfSome, slice_index_or}
 use Rattle.sx_spec.specs.Command.{Text}
-use Rattle.sx_spec.specs.FirstPath.{first_limits}
+use Rattle.sx_spec.specs.Keys.{standard_limits}
 use Rattle.sx_spec.specs.Keys.{Reason, too_long, KeyFault, refusal, first_key_fault, AreKeys}
 use Rattle.sx_spec_strings.specs.Lines.{lines}
 use Rattle.sx_edge.specs.Reading.{Reading, Takes, GivesLine, GivesEnd, FailsRead, IsTooLong}
-use Rattle.sx_cli.specs.FirstBuild.{RefusesLine}
+use Rattle.sx_cli.specs.Building.{RefusesLine}
 use Rattle.sx_cli.specs.Progress.{Progress, ReadsAll, FailsBehind, StopsAt}
 use Rattle.sx_cli.proofs.Advances.{line_fed, line_last, all_read, fails_behind, long_line, stops_at_last}
 use Rattle.sx_cli.proofs.FirstFaults.{first_fault_is, long_refused}
@@ -53,26 +53,26 @@ module _ (first now then : Option (List ℕ)) (old new : Reading) (ls : List Tex
 
 -- a line behind keys that is no key is the first fault of input
 pub refused_line : (first now : Option (List ℕ)) (ls : List Text) (IsLine : Text → Type 0) (fault : KeyFault) → StopsAt first now ls IsLine
-    → ((line : Text) (more : List Text) → IsLine line → first_key_fault first_limits (ls ++ line ∷ more) ≡ Some fault) → RefusesLine first now fault
+    → ((line : Text) (more : List Text) → IsLine line → first_key_fault standard_limits (ls ++ line ∷ more) ≡ Some fault) → RefusesLine first now fault
 refused_line first now ls IsLine fault stops refuses = record { taken = stops.taken; consumed = stops.consumed; first_fault = told first stops.told }
   where
-    told : (f : Option (List ℕ)) → IfSome f (λ bytes. (rest : List Text) × (other : Text) × IsLine other × (lines bytes ≡ ls ++ other ∷ rest)) → IfSome f (λ bytes. first_key_fault first_limits (lines bytes) ≡ Some fault)
+    told : (f : Option (List ℕ)) → IfSome f (λ bytes. (rest : List Text) × (other : Text) × IsLine other × (lines bytes ≡ ls ++ other ∷ rest)) → IfSome f (λ bytes. first_key_fault standard_limits (lines bytes) ≡ Some fault)
     told None h = tt
-    told (Some bytes) (rest, other, is, are) = ap (first_key_fault first_limits) are ∙ refuses other rest is
+    told (Some bytes) (rest, other, is, are) = ap (first_key_fault standard_limits) are ∙ refuses other rest is
 
 -- a line that is too long
-pub long_key : (first now : Option (List ℕ)) (ls : List Text) (max n number : ℕ) → max ≡ 8191 → number ≡ length ls → n ≡ number + 1 → AreKeys first_limits ls → StopsAt first now ls (λ line. max < length line)
+pub long_key : (first now : Option (List ℕ)) (ls : List Text) (max n number : ℕ) → max ≡ 8191 → number ≡ length ls → n ≡ number + 1 → AreKeys standard_limits ls → StopsAt first now ls (λ line. max < length line)
     → RefusesLine first now (record { line = n; reason = too_long })
 long_key first now ls max n number is_max count at valid stops =
     let e : length ls + 1 ≡ n = omega arith in
     refused_line first now ls (λ line. max < length line) (record { line = n; reason = too_long }) stops
-    (λ line more long. first_fault_is first_limits ls line more too_long valid (long_refused first_limits ls line (omega arith)) ∙ ap (λ (k : ℕ). Some (record { line = k; reason = too_long })) e)
+    (λ line more long. first_fault_is standard_limits ls line more too_long valid (long_refused standard_limits ls line (omega arith)) ∙ ap (λ (k : ℕ). Some (record { line = k; reason = too_long })) e)
 
 -- a line that the keys refuse
-pub pushed_key : (first now : Option (List ℕ)) (held : List ℕ) (ended : Bool) (ls : List Text) (line : Text) (n : ℕ) (reason : Reason) → n ≡ length ls + 1 → AreKeys first_limits ls → refusal first_limits ls line ≡ Some reason
+pub pushed_key : (first now : Option (List ℕ)) (held : List ℕ) (ended : Bool) (ls : List Text) (line : Text) (n : ℕ) (reason : Reason) → n ≡ length ls + 1 → AreKeys standard_limits ls → refusal standard_limits ls line ≡ Some reason
     → Progress first now held ended (ls ++ line ∷ []) → RefusesLine first now (record { line = n; reason = reason })
 pushed_key first now held ended ls line n reason at valid refused progress =
     refused_line first now ls (λ l. l ≡ line) (record { line = n; reason = reason }) (stops_at_last first now held ended ls line (λ l. l ≡ line) refl progress)
     (λ other more same.
-    let refused_other : refusal first_limits ls other ≡ Some reason = ap (refusal first_limits ls) same ∙ refused in
-    first_fault_is first_limits ls other more reason valid refused_other ∙ ap (λ (k : ℕ). Some (record { line = k; reason = reason })) (sym at))
+    let refused_other : refusal standard_limits ls other ≡ Some reason = ap (refusal standard_limits ls) same ∙ refused in
+    first_fault_is standard_limits ls other more reason valid refused_other ∙ ap (λ (k : ℕ). Some (record { line = k; reason = reason })) (sym at))

@@ -1,26 +1,18 @@
 -- How query lines are answered, one after the other.
-use Rattle.std.proofs.Common.{◌≡◌, ℕ, ◌+◌, ◌*◌, ◌/◌, ◌<◌, ◌≤◌, Bool, false, List, [], ◌∷◌, ◌++◌, length, take, drop, refl, sym, ap, subst, ◌∙◌, arith, Option, Some, None, inl, inr, append_assoc, append-nil}
-use Rattle.std.specs.Prelude.{slice_index, IfSome}
+use Rattle.std.proofs.Common.{◌≡◌, ℕ, ◌+◌, ◌<◌, ◌≤◌, Bool, false, List, [], ◌∷◌, ◌++◌, length, sym, ap, subst, ◌∙◌, arith, Option, Some, None, inl, inr, append_assoc, append-nil}
+use Rattle.std.specs.Prelude.{IfSome}
+use Rattle.std.proofs.lemmas.List.Sums.{sum_by-append}
 use Rattle.std.specs.Io.KnownBytes.{Appends, Consumes, IsAtEnd}
 use Rattle.std.proofs.KnownBytes.{Appends-trans, Appends-nil}
 use Rattle.std.proofs.lemmas.List.{length-append}
 use Rattle.sx_spec_strings.specs.Lines.{lines}
-use Rattle.sx_spec.specs.declared.Method.TheVariants.{Mwhc}
-use Rattle.sx_spec.specs.declared.Signature.{Signature}
-use Rattle.sx_spec.specs.Chunks.{segment}
 use Rattle.sx_spec.specs.Command.{Text}
 use Rattle.sx_spec.specs.Layout.{Dump}
 use Rattle.sx_spec.specs.Outcomes.{max_queries}
-use Rattle.sx_spec.specs.Reply.{answers, reply}
-use Rattle.sx_spec.specs.Signature.{signature}
-use Rattle.sx_spec.specs.StaticFunction.{Function, value_of}
-use Rattle.sx_spec_strings.specs.Bits.{Bits, key_bits, tagged}
+use Rattle.sx_spec.specs.Reply.{answers, reply, reply_text, reads, all_reads}
 use Rattle.sx_spec.specs.Causes.{Rose}
 use Rattle.sx_edge.specs.Parts.{AppendsPrefix}
 use Rattle.sx_edge.specs.Reading.{Reading, GivesLine, GivesEnd, FailsRead, IsTooLong}
-use Rattle.sx_static.specs.Viewing.{cells_named, one_chunk_function}
-use Rattle.sx_cli.specs.FirstDump.{first_function}
-use Rattle.sx_cli.specs.Opening.{AreDumpWords, cells_in, dump_in}
 use Rattle.sx_cli.specs.Progress.{ReadsAll, FailsBehind, BreaksBehind, StopsAt, Begins}
 use Rattle.sx_cli.specs.Served.{Answers}
 use Rattle.sx_cli.specs.Serving.{Serving, Streams, InputBroken, OutputBroken, ServedTo, WritesHeld, Finishes}
@@ -31,26 +23,13 @@ use Rattle.sx_cli.proofs.FedLines.{all_push}
 use Rattle.sx_cli.proofs.Queries.{answers_begin}
 use Rattle.sx_cli.proofs.Readings.{after_line, line_short, at_end, at_fault, at_long_line}
 
-take_whole : (xs : List ℕ) (n : ℕ) → n ≡ length xs → take n xs ≡ xs
-take_whole [] n e = rw e refl
-take_whole (x ∷ xs) n e = rw e (ap (λ (l : List ℕ). x ∷ l) (take_whole xs (length xs) refl))
-
--- the function in the words is that of the dump
-pub same_function : (keys : ℕ) (words : List ℕ) → AreDumpWords keys words → one_chunk_function words 12 keys ≡ first_function keys (cells_in words)
-same_function keys words are =
-    let named : cells_named words 12 ≡ 3 * segment Mwhc keys = ap (λ (ws : List ℕ). slice_index ws 13) are.are in
-    let segment_is : cells_named words 12 / 3 ≡ segment Mwhc keys = omega arith in
-    let cells : take (cells_named words 12) (drop (12 + 2) words) ≡ cells_in words = take_whole (drop 14 words) (cells_named words 12) (named ∙ sym are.count) in
-    λ i. record { width = 64; pairs = keys; chunks = record { segment = segment_is i; try = 0 } ∷ []; cells = cells i }
-
--- what the function in the words answers a line's signature is the dump's reply
-pub reply_is : (keys : ℕ) (words : List ℕ) → AreDumpWords keys words → (line : Text) (bits : Bits) (sig : Signature) (value : ℕ) → bits ≡ key_bits line → sig ≡ signature 0 192 (tagged None bits)
-    → value ≡ value_of (one_chunk_function words 12 keys) sig → reply (dump_in keys words) line ≡ Some value
-unfolding tagged
-reply_is keys words are line bits sig value bits_are sig_is value_is =
-    let signed : sig ≡ signature 0 192 (key_bits line) = sig_is ∙ ap (λ (b : Bits). signature 0 192 b) bits_are in
-    let e : value ≡ value_of (first_function keys (cells_in words)) (signature 0 192 (key_bits line)) = value_is ∙ ap (λ (f : Function). value_of f sig) (same_function keys words are) ∙ ap (value_of (first_function keys (cells_in words))) signed in
-    ap (λ (n : ℕ). Some n) (sym e)
+-- a number and a line feed were put behind what was held
+pub put_answer : (held mid put : List ℕ) (d : Dump) (line : Text) (text : Text) → text ≡ reply_text (reply d line) → mid ≡ held ++ text → put ≡ mid ++ 10 ∷ []
+    → put ≡ held ++ answers d (line ∷ [])
+put_answer held mid put d line text is first last =
+    last ∙ ap (λ (l : List ℕ). l ++ 10 ∷ []) (first ∙ ap (λ (l : List ℕ). held ++ l) is)
+    ∙ append_assoc held (reply_text (reply d line)) (10 ∷ [])
+    ∙ ap (λ (l : List ℕ). held ++ l) (sym (append-nil (reply_text (reply d line) ++ 10 ∷ [])))
 
 -- ---- how serving goes on
 
@@ -107,13 +86,15 @@ cut_answers d first now reader out mid then held ticks s (part, (rest, is), w) =
 -- one more line was answered
 pub line_answered : (d : Dump) (first now then : Option (List ℕ)) (reader new : Reading) (out mid : Option (List ℕ)) (held replies : List ℕ) (ticks more : ℕ)
     → Serving d first now reader out mid held ticks → GivesLine reader new now then → (line : Text) → new.line ≡ Some line → new.max ≡ reader.max → new.fault ≡ None → new.number ≤ max_queries
-    → replies ≡ held ++ answers d (line ∷ []) → more ≤ ticks + 8 → Serving d first then new out mid replies more
+    → replies ≡ held ++ answers d (line ∷ []) → more ≤ ticks + reads d line → Serving d first then new out mid replies more
 line_answered d first now then reader new out mid held replies ticks more s gives line is max fault few put bound =
     let short : length line ≤ 8191 = subst (λ (n : ℕ). length line ≤ n) s.max (line_short first now then reader new s.lines s.progress gives line is) in
     let count = length-append s.lines (line ∷ []) in
     let number = gives.number in
     let number_before = s.number in
     let bound_before = s.bound in
+    let bound_more : all_reads d (s.lines ++ line ∷ []) ≡ all_reads d s.lines + all_reads d (line ∷ []) = sum_by-append (reads d) s.lines (line ∷ []) in
+    let bound_last : all_reads d (line ∷ []) ≡ reads d line = omega arith in
     record {
       lines = s.lines ++ line ∷ [];
       progress = after_line first now then reader new s.lines s.progress gives line is;
@@ -124,7 +105,7 @@ line_answered d first now then reader new out mid held replies ticks more s give
       written = s.written;
       out = s.out;
       whole = ap (λ (xs : List ℕ). s.written ++ xs) put ∙ sym (append_assoc s.written held (answers d (line ∷ []))) ∙ ap (λ (xs : List ℕ). xs ++ answers d (line ∷ [])) s.whole ∙ sym (answers_begin d s.lines (line ∷ []));
-      bound = omega (arith, count);
+      bound = omega (arith, bound, bound_before, bound_more, bound_last);
     }
 
 -- ---- how serving ends

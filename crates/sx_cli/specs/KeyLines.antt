@@ -20,11 +20,11 @@ fault_of line reason = record { line = line; reason = reason_of reason }
 
 -- what is told of it behind the line's number
 abbrev pub told_of : KeyReason → Text
-told_of TooLong = codes ": beyond the first path"
+told_of TooLong = codes ": longer than 8191 bytes"
 told_of ZeroByte = codes ": holds a zero byte"
 told_of Doubled = codes ": equal to the line before"
 told_of Unordered = codes ": below the line before"
-told_of TooManyKeys = codes ": beyond the first path"
+told_of TooManyKeys = codes ": more than 4194304 keys"
 told_of TooManyBytes = codes ": more than 268435456 bytes of keys"
 
 -- the bytes of lines, a line feed behind each

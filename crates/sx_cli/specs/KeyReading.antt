@@ -3,27 +3,26 @@ use Rattle.std.specs.Prelude.{◌≡◌, ⊤, ℕ, List, Option, Some, None}
 use Rattle.sx_spec.specs.declared.Limits.{Limits}
 use Rattle.sx_spec.specs.Causes.{Rose}
 use Rattle.sx_spec.specs.Command.{Text}
-use Rattle.sx_spec.specs.FirstPath.{first_limits}
-use Rattle.sx_spec.specs.Keys.{refusal, AreKeys}
+use Rattle.sx_spec.specs.Keys.{refusal, AreKeys, standard_limits}
 use Rattle.sx_bits.specs.KeyLists.{Keys, reason_of as reason_of_fault}
 use Rattle.sx_bits.specs.declared.fault.KeyFault.{KeyFault}
 use Rattle.sx_cli.specs.declared.keys.KeysStop.{KeysStop}
 use Rattle.sx_cli.specs.declared.keys.KeysStop.TheVariants.{Refused, Failed, Memory}
-use Rattle.sx_cli.specs.FirstBuild.{RefusesLine}
+use Rattle.sx_cli.specs.Building.{RefusesLine}
 use Rattle.sx_cli.specs.KeyLines.{reason_of, fault_of}
 use Rattle.sx_cli.specs.Progress.{ReadsAll, FailsBehind}
 
 -- the keys are the lines of input, all of them
 pub record ReadsKeys (old new : Option (List ℕ)) (keys : Keys) : Type 0 where
-  pub limits : keys.limits ≡ first_limits
+  pub limits : keys.limits ≡ standard_limits
   pub all : ReadsAll old new keys.lines
-  pub valid : AreKeys first_limits keys.lines
+  pub valid : AreKeys standard_limits keys.lines
 
 -- input failed behind lines that are keys
 pub record FailsKeys (old new : Option (List ℕ)) (before after : ℕ) : Type 0 where
   pub keys : List Text
   pub behind : FailsBehind old new 8191 keys
-  pub valid : AreKeys first_limits keys
+  pub valid : AreKeys standard_limits keys
   pub cause : Rose before after
 
 -- why reading stopped

@@ -1,39 +1,53 @@
--- What a file holds to the first path.
-use Rattle.std.specs.Prelude.{◌≡◌, ◌*◌, ◌≤◌, ◌<◌, ◌^◌, ◌++◌, ℕ, false, List, length, drop, Option, Some, None, IfSome, IsSomeAnd}
-use Rattle.std.specs.List.{AllByRecursion}
-use Rattle.sx_spec.specs.declared.Method.TheVariants.{Mwhc}
-use Rattle.sx_spec.specs.Chunks.{segment}
+-- What the file of a dump holds.
+use Rattle.std.specs.Prelude.{◌≡◌, ◌⊎◌, ◌+◌, ◌^◌, ◌<◌, ℕ, List, length, take, slice_index, Option, Some, None, IfSome}
+use Rattle.sx_spec.specs.declared.Status.{Status}
+use Rattle.sx_spec.specs.declared.Status.TheVariants.{BadDump, Memory}
+use Rattle.sx_spec.specs.Causes.{Rose}
 use Rattle.sx_spec.specs.Command.{Text}
-use Rattle.sx_spec.specs.FirstPath.{first_front, is_first_dump}
-use Rattle.sx_spec.specs.Layout.{Dump, dump_bytes}
+use Rattle.sx_spec.specs.Layout.{Dump, bytes_words, dump_bytes, Passes}
+use Rattle.sx_spec.specs.Messages.{at_dump, memory_text}
+use Rattle.sx_spec.specs.Outcomes.{dump_refusal}
+use Rattle.sx_spec_program.specs.Program.{func_program, func_offer, offered_fault}
+use Rattle.sx_cli.specs.Telling.{Tells, Fails}
 use Rattle.sx_spec.specs.World.{Files}
-use Rattle.sx_cli.specs.declared.open.Opened.{Opened}
-use Rattle.sx_cli.specs.declared.open.Opened.TheVariants.{Dump as OpenedDump, NoFile, UnknownForm}
-use Rattle.sx_cli.specs.FirstDump.{first_dump}
+use Rattle.sx_cli.specs.declared.dump_file.DumpFile.{DumpFile}
 
--- the cells among the words of a dump
-abbrev pub cells_in : List ℕ → List ℕ
-cells_in words = drop 14 words
+-- the words are those of bytes, and so many bytes there are
+pub record IsDecoded (bytes words : List ℕ) (size : ℕ) : Type 0 where
+  pub words_are : words ≡ bytes_words bytes
+  pub size_is : size ≡ length bytes
+  pub small : (i : ℕ) → slice_index bytes i < 256
 
--- the dump of so many keys with these words
-abbrev pub dump_in : ℕ → List ℕ → Dump
-dump_in keys words = first_dump keys (cells_in words)
+-- the words are those of the file of the name, up to one byte past the most
+pub record IsFile (name : Text) (files : Option Files) (words : List ℕ) (size : ℕ) : Type 0 where
+  pub bytes : List ℕ
+  pub decoded : IsDecoded bytes words size
+  pub told : IfSome files (λ fs. (all : List ℕ) × (fs name ≡ Some all) × (bytes ≡ take (2 ^ 30 + 1) all))
 
--- the words are those of a dump of so many keys
-pub record AreDumpWords (keys : ℕ) (words : List ℕ) : Type 0 where
-  pub are : words ≡ first_front keys ++ cells_in words
-  pub few : keys ≤ 1024
-  pub count : length (cells_in words) ≡ 3 * segment Mwhc keys
-  pub small : AllByRecursion (λ v. v < 2 ^ 64) (cells_in words)
+-- what was found
+abbrev pub IsFound : Text → Option Files → Option DumpFile → Type 0
+IsFound name files None = IfSome files (λ fs. fs name ≡ None)
+IsFound name files (Some file) = IsFile name files file.words.items file.bytes
 
--- what bytes hold
-abbrev pub IsDecoded : List ℕ → Opened → Type 0
-IsDecoded bytes (OpenedDump keys words) = AreDumpWords keys words.items × (bytes ≡ dump_bytes (dump_in keys words.items))
-IsDecoded bytes NoFile = ⊥
-IsDecoded bytes UnknownForm = is_first_dump bytes ≡ false
+-- the file of the name is the dump
+pub record IsOpened (name : Text) (files : Option Files) (dump : Dump) : Type 0 where
+  pub file : IfSome files (λ fs. fs name ≡ Some (dump_bytes dump))
+  pub passes : Passes dump
+  pub accepted : offered_fault func_offer (dump_bytes dump) ≡ None
 
--- what the file of a name holds, where files are told
-abbrev pub IsOpened : Text → Option Files → Opened → Type 0
-IsOpened name files (OpenedDump keys words) = AreDumpWords keys words.items × IfSome files (λ fs. fs name ≡ Some (dump_bytes (dump_in keys words.items)))
-IsOpened name files NoFile = IfSome files (λ fs. fs name ≡ None)
-IsOpened name files UnknownForm = IfSome files (λ fs. IsSomeAnd (fs name) (λ bytes. is_first_dump bytes ≡ false))
+-- the file isn't there or is no dump, and the first reason is told
+pub record IsRefused (name : Text) (files : Option Files) (old new : Option (List ℕ)) (before after : ℕ) (result : Status) : Type 0 where
+  pub reason : Text
+  pub first_reason : IfSome files (λ fs. dump_refusal func_program (fs name) ≡ Some reason)
+  pub told : Tells reason BadDump old new before after result
+
+-- what is told of a file that isn't read: it isn't there, the shelf has failed, or memory is wanting
+abbrev pub StopsAtFile : Text → Option Files → ℕ → ℕ → Option (List ℕ) → Option (List ℕ) → ℕ → ℕ → Status → Type 0
+StopsAtFile name files shelf_before shelf_after old new before after result =
+    IsRefused name files old new before after result
+    ⊎ ((Rose shelf_before shelf_after × Fails at_dump old new before after result) ⊎ Tells memory_text Memory old new before after result)
+
+-- what is told of a file that is no dump, or where memory is wanting
+abbrev pub StopsAtCheck : Text → Option Files → Option (List ℕ) → Option (List ℕ) → ℕ → ℕ → Status → Type 0
+StopsAtCheck name files old new before after result =
+    IsRefused name files old new before after result ⊎ Tells memory_text Memory old new before after result

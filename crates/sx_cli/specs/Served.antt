@@ -1,19 +1,19 @@
 -- How far query lines were answered.
-use Rattle.std.specs.Prelude.{ℕ, ◌≤◌, ◌*◌, List, length, Option}
+use Rattle.std.specs.Prelude.{ℕ, ◌≤◌, List, length, Option}
 use Rattle.std.specs.Io.KnownBytes.{Appends}
 use Rattle.std.specs.List.{AllByRecursion}
 use Rattle.sx_spec.specs.Command.{Text}
 use Rattle.sx_spec.specs.Layout.{Dump}
 use Rattle.sx_spec.specs.Outcomes.{max_queries}
-use Rattle.sx_spec.specs.Reply.{answers}
+use Rattle.sx_spec.specs.Reply.{answers, all_reads}
 
 -- lines that `query` answers: short enough, and no more than may be asked
 pub record AreQueries (ls : List Text) : Type 0 where
   pub short : AllByRecursion (λ line. length line ≤ 8191) ls
   pub few : length ls ≤ max_queries
 
--- the lines are answered, within eight reads for each
+-- the lines are answered, within the reads that their replies have
 pub record Answers (d : Dump) (ls : List Text) (old new : Option (List ℕ)) (ticks : ℕ) : Type 0 where
   pub queries : AreQueries ls
   pub out : Appends old new (answers d ls)
-  pub bound : ticks ≤ 8 * length ls
+  pub bound : ticks ≤ all_reads d ls

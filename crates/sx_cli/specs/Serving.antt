@@ -1,15 +1,15 @@
 -- What answering the query lines of input comes to.
-use Rattle.std.specs.Prelude.{◌≡◌, ◌⊎◌, Bool, false, ℕ, ◌+◌, ◌*◌, ◌<◌, ◌≤◌, List, [], ◌++◌, length, Option, None}
+use Rattle.std.specs.Prelude.{◌≡◌, ◌⊎◌, Bool, false, ℕ, ◌+◌, ◌<◌, ◌≤◌, List, [], ◌++◌, length, Option, None}
 use Rattle.std.specs.Io.KnownBytes.{Appends, Keeps}
 use Rattle.sx_spec.specs.Causes.{Rose}
 use Rattle.sx_spec.specs.Command.{Text}
 use Rattle.sx_spec.specs.Layout.{Dump}
-use Rattle.sx_spec.specs.Messages.{long_query_text, many_queries_text}
+use Rattle.sx_spec.specs.Messages.{at_input, at_output, long_query_text, many_queries_text}
 use Rattle.sx_spec.specs.Outcomes.{max_queries}
 use Rattle.sx_spec.specs.declared.Status.{Status}
-use Rattle.sx_spec.specs.declared.Status.TheVariants.{Done as AllDone, BadInput, Fault}
-use Rattle.sx_cli.specs.Telling.{Tells}
-use Rattle.sx_spec.specs.Reply.{answers}
+use Rattle.sx_spec.specs.declared.Status.TheVariants.{Done as AllDone, BadInput}
+use Rattle.sx_cli.specs.Telling.{Tells, Fails}
+use Rattle.sx_spec.specs.Reply.{answers, all_reads}
 use Rattle.sx_edge.specs.Parts.{AppendsPrefix}
 use Rattle.sx_edge.specs.Reading.{Reading}
 use Rattle.sx_cli.specs.declared.serve.Served.{Served}
@@ -56,7 +56,7 @@ pub record OutputBroken (d : Dump) (old new : Streams) (ticks : ℕ) : Type 0 wh
   pub lines : List Text
   pub behind : BreaksBehind old.input new.input lines
   pub queries : AreQueries lines
-  pub bound : ticks ≤ 8 * length lines
+  pub bound : ticks ≤ all_reads d lines
   pub out : AppendsPrefix old.out new.out (answers d lines)
   pub cause : Rose old.out_faults new.out_faults
 
@@ -79,14 +79,14 @@ pub record Serving (d : Dump) (first now : Option (List ℕ)) (reader : Reading)
   pub written : List ℕ
   pub out : Appends old_out new_out written
   pub whole : written ++ held ≡ answers d lines
-  pub bound : ticks ≤ 8 * length lines
+  pub bound : ticks ≤ all_reads d lines
 
 -- what was held was written, or the next line needs no read and there is room for its answer
 pub record WritesHeld (held left : List ℕ) (ready : Bool) (old new : Option (List ℕ)) : Type 0 where
   pub written : List ℕ
   pub whole : held ≡ written ++ left
   pub out : Appends old new written
-  pub room : length left ≤ 65515
+  pub room : length left ≤ 65494
   pub none : ready ≡ false → left ≡ []
 
 -- all answers that were held were written
@@ -114,5 +114,5 @@ abbrev pub Ends : Served → Option (List ℕ) → Option (List ℕ) → ℕ →
 Ends Done old new before after result = IsQuiet AllDone old new result
 Ends (TooLong line) old new before after result = Tells (long_query_text line) BadInput old new before after result
 Ends TooMany old new before after result = Tells (many_queries_text (max_queries + 1)) BadInput old new before after result
-Ends InputFailed old new before after result = IsQuiet Fault old new result
-Ends OutputFailed old new before after result = IsQuiet Fault old new result
+Ends InputFailed old new before after result = Fails at_input old new before after result
+Ends OutputFailed old new before after result = Fails at_output old new before after result

@@ -1,78 +1,156 @@
 //! The command `build`.
-ghost use Rattle.std.specs.Prelude.{◌≡◌, ◌≤◌, ◌⊎◌, ℕ};
+ghost use Rattle.std.specs.Prelude.{◌≡◌, ◌≤◌, ◌⊎◌, ℕ, MatchResult, length};
 ghost use Rattle.sx_edge.specs.Shelf.{idle};
 ghost use Rattle.sx_spec.specs.declared.Status.TheVariants.{BadInput, Memory};
-ghost use Rattle.sx_spec.specs.Command.{build as build_of};
-ghost use Rattle.sx_spec.specs.FirstPath.{first_path, first_key_text};
-ghost use Rattle.sx_spec.specs.Messages.{memory_text};
+ghost use Rattle.sx_spec.specs.Command.{build as build_of_task};
+ghost use Rattle.sx_spec.specs.Messages.{key_text, values_text, memory_text};
 ghost use Rattle.sx_spec.specs.Run.{Promise};
-ghost use Rattle.sx_spec.specs.World.{world};
-ghost use Rattle.sx_cli.specs.FirstBuild.{first_task};
+ghost use Rattle.sx_spec.specs.World.{world, KeepsFiles};
+ghost use Rattle.sx_spec_program.specs.Program.{func_program};
+ghost use Rattle.sx_cli.specs.Building.{IsPlan, build_of};
 ghost use Rattle.sx_cli.specs.KeyLines.{fault_of};
-ghost use Rattle.sx_cli.specs.Storing.{Stores};
+ghost use Rattle.sx_cli.specs.Storing.{Stores, GivenEnds};
 ghost use Rattle.sx_cli.specs.Telling.{Tells};
+ghost use Rattle.sx_cli.specs.ValueLines.{values_fault_of, Given, StopsGiving};
 
 use crate::dump::write_dump;
 use crate::keys::{KeysStop, read_keys};
-use crate::messages::{KeyReason, key_text, memory_message, seeds_message};
-use crate::prepare::{Prepared, prepare};
-use crate::telling::tell;
+use crate::messages::{KeyReason, key_message, values_message};
+use crate::seeds::{Tried, try_seeds};
+use crate::telling::{Place, fail, tell, tell_memory};
+use crate::values::{ValuesFault, ValuesStop, ranks, read_values};
 use std::alloc::Global;
+use sx_bits::KeyList;
 use sx_edge::shelf::Shelf;
 use sx_edge::sink::{Sink, write_all};
 use sx_edge::source::Source;
 use sx_spec::Status;
+use sx_words::BuildTask;
 
 /// Tells why a line is no key.
 fn refuse_key<E: Sink>(alloc: Global, err: &mut E, line: u64, reason: KeyReason) -> Status
-    ensures told { Tells (first_key_text (fault_of line reason)) BadInput (E.written err.old) (E.written err.new) (E.faults err.old) (E.faults err.new) result
+    ensures told { Tells (key_text (fault_of line reason)) BadInput (E.written err.old) (E.written err.new) (E.faults err.old) (E.faults err.new) result
         ⊎ Tells memory_text Memory (E.written err.old) (E.written err.new) (E.faults err.old) (E.faults err.new) result }
     ensures later { E.faults err.old ≤ E.faults err.new }
 {
-    match key_text(alloc, line, reason) {
+    match key_message(alloc, line, reason) {
         Ok(text) => tell(err, &text, Status::BadInput),
-        Err(_) => tell(err, &memory_message(), Status::Memory),
+        Err(_) => tell_memory(err),
+    }
+}
+
+/// Tells what is wrong with a values file for so many keys.
+fn refuse_values<E: Sink>(alloc: Global, err: &mut E, keys: u32, fault: ValuesFault) -> Status
+    ensures told { Tells (values_text keys (values_fault_of fault)) BadInput (E.written err.old) (E.written err.new) (E.faults err.old) (E.faults err.new) result
+        ⊎ Tells memory_text Memory (E.written err.old) (E.written err.new) (E.faults err.old) (E.faults err.new) result }
+    ensures later { E.faults err.old ≤ E.faults err.new }
+{
+    match values_message(alloc, keys, fault) {
+        Ok(text) => tell(err, &text, Status::BadInput),
+        Err(_) => tell_memory(err),
+    }
+}
+
+/// The values of so many keys: those of the file that the task names, or else the keys' numbers.
+fn values_for<F: Shelf>(
+    alloc: Global,
+    files: &mut F,
+    task: &BuildTask,
+    keys: u32,
+) -> Result<Vec<u64>, ValuesStop>
+    requires { F.in_use files.old ≡ idle }
+    ensures values { MatchResult result (λ v. Given task.now.values keys (F.files files.old) v.items)
+        (StopsGiving task.now.values keys (F.files files.old) (F.faults files.old) (F.faults files.new)) }
+    ensures files { KeepsFiles (F.files files.old) (F.files files.new) }
+    ensures later { F.faults files.old ≤ F.faults files.new }
+    ensures closed { F.in_use files.new ≡ idle }
+{
+    match &task.values {
+        Some(name) => read_values(alloc, files, name.as_str(), keys),
+        None => match ranks(alloc, keys) {
+            Ok(values) => Ok(values),
+            Err(_) => Err(ValuesStop::Memory),
+        },
     }
 }
 
 /// Writes the dump to its file, and then the line on it to out.
-fn store<F: Shelf, O: Sink>(
+fn store<F: Shelf, O: Sink, E: Sink>(
     name: &str,
-    bytes: &[u8],
+    words: &[u64],
     line: &[u8],
     files: &mut F,
     out: &mut O,
+    err: &mut E,
 ) -> Status
     requires { F.in_use files.old ≡ idle }
-    ensures stored { Stores name.now bytes.now line.now
-        (record { files = F.files files.old; out = O.written out.old; shelf_faults = F.faults files.old; out_faults = O.faults out.old })
-        (record { files = F.files files.new; out = O.written out.new; shelf_faults = F.faults files.new; out_faults = O.faults out.new })
+    ensures stored { Stores name.now words.now line.now
+        (record { files = F.files files.old; out = O.written out.old; err = E.written err.old; shelf_faults = F.faults files.old; out_faults = O.faults out.old; err_faults = E.faults err.old })
+        (record { files = F.files files.new; out = O.written out.new; err = E.written err.new; shelf_faults = F.faults files.new; out_faults = O.faults out.new; err_faults = E.faults err.new })
         result }
     ensures closed { F.in_use files.new ≡ idle }
     ensures later { F.faults files.old ≤ F.faults files.new }
     ensures later_out { O.faults out.old ≤ O.faults out.new }
+    ensures later_err { E.faults err.old ≤ E.faults err.new }
 {
-    match write_dump(files, name, bytes) {
+    match write_dump(files, name, words) {
         Ok(()) => match write_all(out, line) {
             Ok(()) => Status::Done,
-            Err(_) => Status::Fault,
+            Err(_) => fail(err, Place::Output),
         },
-        Err(_) => Status::Fault,
+        Err(_) => fail(err, Place::Dump),
     }
 }
 
-/// Reads keys from input and writes the dump of the static function that gives each its number,
-/// then a line on it to out.
+/// Builds and stores the dump of these keys and values, or tells why no seed works.
+fn build_given<F: Shelf, O: Sink, E: Sink>(
+    alloc: Global,
+    task: &BuildTask,
+    keys: &KeyList,
+    values: &[u64],
+    files: &mut F,
+    out: &mut O,
+    err: &mut E,
+) -> Status
+    requires idle { F.in_use files.old ≡ idle }
+    requires values { length values.now ≡ length keys.now.lines }
+    requires plan { IsPlan task.now.plan }
+    ensures ends { GivenEnds (build_of task.now) keys.now.lines values.now
+        (record { files = F.files files.old; out = O.written out.old; err = E.written err.old; shelf_faults = F.faults files.old; out_faults = O.faults out.old; err_faults = E.faults err.old })
+        (record { files = F.files files.new; out = O.written out.new; err = E.written err.new; shelf_faults = F.faults files.new; out_faults = O.faults out.new; err_faults = E.faults err.new })
+        result }
+    ensures closed { F.in_use files.new ≡ idle }
+    ensures later { F.faults files.old ≤ F.faults files.new }
+    ensures later_out { O.faults out.old ≤ O.faults out.new }
+    ensures later_err { E.faults err.old ≤ E.faults err.new }
+{
+    match try_seeds(alloc, &task.plan, task.seeds.as_slice(), keys, values) {
+        Ok(Tried::Dump { words, line }) => store(
+            task.dump.as_str(),
+            &words,
+            &line,
+            files,
+            out,
+            err,
+        ),
+        Ok(Tried::Failed { message }) => tell(err, &message, Status::SeedsFailed),
+        Err(_) => tell_memory(err),
+    }
+}
+
+/// Reads keys from input, and their values from a file where one is named, and writes the dump of
+/// the static function that gives each key its value or number, then a line on it to out.
 pub fn build<F: Shelf, S: Source, O: Sink, E: Sink>(
     alloc: Global,
-    name: &str,
+    task: &BuildTask,
     files: &mut F,
     input: &mut S,
     out: &mut O,
     err: &mut E,
 ) -> Status
-    requires { F.in_use files.old ≡ idle }
-    ensures promise { (ticks : ℕ) → Promise first_path (build_of (first_task name.now))
+    requires idle { F.in_use files.old ≡ idle }
+    requires plan { IsPlan task.now.plan }
+    ensures promise { (ticks : ℕ) → Promise func_program (build_of_task (build_of task.now))
         (world (F.files files.old) (S.left input.old) (O.written out.old) (E.written err.old) (F.faults files.old) (S.faults input.old) (O.faults out.old) (E.faults err.old))
         (world (F.files files.new) (S.left input.new) (O.written out.new) (E.written err.new) (F.faults files.new) (S.faults input.new) (O.faults out.new) (E.faults err.new))
         ticks result }
@@ -81,12 +159,14 @@ pub fn build<F: Shelf, S: Source, O: Sink, E: Sink>(
     let keys = match read_keys(alloc, input) {
         Ok(keys) => keys,
         Err(KeysStop::Refused { line, reason }) => return refuse_key(alloc, err, line, reason),
-        Err(KeysStop::Failed) => return Status::Fault,
-        Err(KeysStop::Memory) => return tell(err, &memory_message(), Status::Memory),
+        Err(KeysStop::Failed) => return fail(err, Place::Input),
+        Err(KeysStop::Memory) => return tell_memory(err),
     };
-    match prepare(alloc, &keys) {
-        Ok(Prepared::Dump { bytes, line }) => store(name, &bytes, &line, files, out),
-        Ok(Prepared::SeedFails) => tell(err, &seeds_message(), Status::SeedsFailed),
-        Err(_) => tell(err, &memory_message(), Status::Memory),
-    }
+    let values = match values_for(alloc, files, task, keys.len()) {
+        Ok(values) => values,
+        Err(ValuesStop::Refused(fault)) => return refuse_values(alloc, err, keys.len(), fault),
+        Err(ValuesStop::Failed) => return fail(err, Place::Values),
+        Err(ValuesStop::Memory) => return tell_memory(err),
+    };
+    build_given(alloc, task, &keys, &values, files, out, err)
 }

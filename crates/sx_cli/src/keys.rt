@@ -1,7 +1,6 @@
 //! The key lines of input.
 ghost use Rattle.std.specs.Prelude.{◌≡◌, ◌≤◌, ◌++◌, ◌∷◌, [], None, length, MatchResult};
 ghost use Rattle.sx_spec.specs.Keys.{refusal};
-ghost use Rattle.sx_spec.specs.FirstPath.{first_limits};
 ghost use Rattle.sx_cli.specs.KeyReading.{ReadsKeys, StopsKeys, StopsPush, StopsFault};
 
 use crate::messages::KeyReason;
@@ -13,9 +12,6 @@ use sx_edge::source::Source;
 /// How many bytes a line has at most.
 pub const MAX_LINE: usize = 8191;
 
-/// How many keys there are at most: those of one chunk.
-const MAX_KEYS: u32 = 1024;
-
 /// Why no key list was read.
 #[derive(Clone, Copy, Debug, PartialEq, Eq)]
 pub enum KeysStop {
@@ -25,17 +21,6 @@ pub enum KeysStop {
     Failed,
     /// Memory is wanting.
     Memory,
-}
-
-/// The limits of the first path.
-fn first_path_limits() -> Limits
-    ensures { result ≡ first_limits }
-{
-    Limits {
-        max_line: MAX_LINE,
-        max_keys: MAX_KEYS,
-        max_bytes: 268_435_456,
-    }
 }
 
 /// What a key list's refusal of a line comes to.
@@ -75,7 +60,7 @@ pub fn read_keys<S: Source>(alloc: Global, input: &mut S) -> Result<KeyList, Key
         Ok(reader) => reader,
         Err(_) => return Err(KeysStop::Memory),
     };
-    let mut keys = KeyList::new(alloc, first_path_limits());
+    let mut keys = KeyList::new(alloc, Limits::standard());
     'lines: loop {
         match reader.next(input) {
             Ok(Step::Line) => match push_key(&mut keys, reader.number(), reader.line()) {

@@ -2,17 +2,18 @@
 #![tactic(auto)]
 
 mod build;
-mod command;
 mod dump;
+mod dump_file;
+mod failures;
 mod keys;
 pub mod messages;
 mod open;
-mod prepare;
 mod query;
 pub mod run;
+mod seeds;
 mod serve;
+mod show;
 pub mod telling;
-mod text_buffer;
-mod words;
+mod values;
 
 pub use sx_spec::Status;

@@ -1,77 +1,50 @@
 //! A dump that is read from its file.
-ghost use Rattle.std.specs.Prelude.{◌≡◌, ◌≢◌, ◌<◌, ◌^◌, ℕ, slice_index, ◌≤◌, Err, IfOk, length};
+ghost use Rattle.std.specs.Prelude.{◌≡◌, ◌≢◌, ◌≤◌, ◌⊎◌, List, ℕ, Option, Err, IfOk, OnOk, MatchResult};
 ghost use Rattle.sx_edge.specs.Shelf.{idle};
+ghost use Rattle.sx_spec.specs.declared.Status.TheVariants.{BadDump, Memory};
 ghost use Rattle.sx_spec.specs.Causes.{Rose};
-ghost use Rattle.sx_spec.specs.World.{KeepsFiles};
-ghost use Rattle.sx_cli.specs.Opening.{IsDecoded, IsOpened};
-ghost use Rattle.sx_cli.specs.FirstDump.{is_first};
+ghost use Rattle.sx_spec.specs.Command.{Text};
+ghost use Rattle.sx_spec.specs.Messages.{check_text, memory_text};
+ghost use Rattle.sx_spec.specs.World.{Files, KeepsFiles};
+ghost use Rattle.sx_dump.specs.Opening.{dump_in};
+ghost use Rattle.sx_cli.specs.Opening.{IsDecoded, IsFound, IsFile, IsOpened, StopsAtFile, StopsAtCheck};
+ghost use Rattle.sx_cli.specs.Telling.{Tells};
 
-use crate::prepare::front_words;
-use crate::words::words_of;
-use std::alloc::{AllocError, Global};
+use crate::dump_file::DumpFile;
+use crate::messages::{check_message, no_dump_message};
+use crate::telling::{Place, fail, tell, tell_memory};
+use std::alloc::Global;
+use sx_dump::{Dump, OpenFault, open_dump, words_of};
 use sx_edge::shelf::{ReadFault, Shelf, read_file};
+use sx_edge::sink::Sink;
+use sx_fields::bank::Words;
+use sx_spec::Status;
 
-/// How many bytes a dump of the first path has at most: that of 1,024 keys.
-const MAX_BYTES: u64 = 10_216;
+/// How many bytes a dump has at most.
+const MAX_BYTES: u64 = 1_073_741_824;
 
-/// How many keys a dump of the first path has at most.
-const MAX_KEYS: u64 = 1024;
-
-/// What a file holds.
-#[derive(Debug, Drop)]
-pub enum Opened {
-    /// The words of a dump of the first path, of so many keys.
-    Dump { keys: u32, words: Vec<u64> },
-    /// Nothing: no file has the name.
-    NoFile,
-    /// Something else.
-    UnknownForm,
-}
-
-/// Whether the words of a file of so many bytes are a dump of the first path.
-fn is_first_dump(words: &[u64], size: usize) -> bool
-    ensures value { result ≡ is_first words.now size }
-    ensures small { (i : ℕ) → slice_index words.now i < 2 ^ 64 }
-{
-    let keys = match words.get(4) {
-        Some(keys) => *keys,
-        None => 0,
-    };
-    if keys > MAX_KEYS {
-        return false;
-    }
-    let front = front_words(keys as u32);
-    size as u64 == 8 * front[1] && words.starts_with(&front)
-}
-
-/// What the bytes of a file hold.
-fn decode(alloc: Global, bytes: &[u8]) -> Result<Opened, AllocError>
-    ensures { IfOk result (IsDecoded bytes.now) }
-{
-    let words = words_of(alloc, bytes)?;
-    if is_first_dump(&words, bytes.len()) {
-        let keys = words[4] as u32;
-        Ok(Opened::Dump { keys, words })
-    } else {
-        Ok(Opened::UnknownForm)
-    }
-}
-
-/// What bytes hold that were read up to one past the most.
-fn decode_read(alloc: Global, bytes: &[u8]) -> Result<Opened, ReadFault>
-    ensures decoded { IfOk result (IsDecoded bytes.now) }
+/// The words of bytes that were read.
+fn decode(alloc: Global, bytes: &[u8]) -> Result<DumpFile, ReadFault>
+    ensures decoded { IfOk result (λ f. IsDecoded bytes.now f.words.items f.bytes) }
     ensures memory { result ≢ Err ReadFault.Failed }
 {
-    match decode(alloc, bytes) {
-        Ok(opened) => Ok(opened),
+    match words_of(alloc, bytes) {
+        Ok(words) => Ok(DumpFile {
+            words,
+            bytes: bytes.len() as u64,
+        }),
         Err(_) => Err(ReadFault::Memory),
     }
 }
 
-/// Reads the file of the name as a dump of the first path. No file is left in use.
-pub fn open_dump<F: Shelf>(alloc: Global, files: &mut F, name: &str) -> Result<Opened, ReadFault>
+/// Reads the file of the name; none where no file has it. No file is left in use.
+fn read_dump<F: Shelf>(
+    alloc: Global,
+    files: &mut F,
+    name: &str,
+) -> Result<Option<DumpFile>, ReadFault>
     requires { F.in_use files.old ≡ idle }
-    ensures opened { IfOk result (IsOpened name.now (F.files files.old)) }
+    ensures found { IfOk result (IsFound name.now (F.files files.old)) }
     ensures files { KeepsFiles (F.files files.old) (F.files files.new) }
     ensures failed { result ≡ Err ReadFault.Failed → Rose (F.faults files.old) (F.faults files.new) }
     ensures later { F.faults files.old ≤ F.faults files.new }
@@ -79,7 +52,7 @@ pub fn open_dump<F: Shelf>(alloc: Global, files: &mut F, name: &str) -> Result<O
 {
     match files.open_file(name) {
         Ok(true) => {}
-        Ok(false) => return Ok(Opened::NoFile),
+        Ok(false) => return Ok(None),
         Err(_) => return Err(ReadFault::Failed),
     }
     let read = read_file(alloc, files, MAX_BYTES);
@@ -88,7 +61,65 @@ pub fn open_dump<F: Shelf>(alloc: Global, files: &mut F, name: &str) -> Result<O
         Err(_) => return Err(ReadFault::Failed),
     }
     match read {
-        Ok(bytes) => decode_read(alloc, &bytes),
+        Ok(bytes) => match decode(alloc, &bytes) {
+            Ok(file) => Ok(Some(file)),
+            Err(fault) => Err(fault),
+        },
         Err(fault) => Err(fault),
+    }
+}
+
+/// Reads the file of the name, or tells why it can't be read.
+pub fn find_dump<F: Shelf, E: Sink>(
+    alloc: Global,
+    files: &mut F,
+    name: &str,
+    err: &mut E,
+) -> Result<DumpFile, Status>
+    requires { F.in_use files.old ≡ idle }
+    ensures found { MatchResult result (λ f. IsFile name.now (F.files files.old) f.words.items f.bytes)
+        (StopsAtFile name.now (F.files files.old) (F.faults files.old) (F.faults files.new) (E.written err.old) (E.written err.new) (E.faults err.old) (E.faults err.new)) }
+    ensures quiet { OnOk result ((E.written err.new ≡ E.written err.old) × (E.faults err.new ≡ E.faults err.old)) }
+    ensures files { KeepsFiles (F.files files.old) (F.files files.new) }
+    ensures closed { F.in_use files.new ≡ idle }
+    ensures later { F.faults files.old ≤ F.faults files.new }
+    ensures later_err { E.faults err.old ≤ E.faults err.new }
+{
+    match read_dump(alloc, files, name) {
+        Ok(Some(file)) => Ok(file),
+        Ok(None) => Err(tell(err, &no_dump_message(), Status::BadDump)),
+        Err(ReadFault::Failed) => Err(fail(err, Place::Dump)),
+        Err(ReadFault::Memory) => Err(tell_memory(err)),
+    }
+}
+
+/// Tells which check a file fails.
+fn refuse_check<E: Sink>(alloc: Global, err: &mut E, check: u8) -> Status
+    ensures told { Tells (check_text check) BadDump (E.written err.old) (E.written err.new) (E.faults err.old) (E.faults err.new) result
+        ⊎ Tells memory_text Memory (E.written err.old) (E.written err.new) (E.faults err.old) (E.faults err.new) result }
+    ensures later { E.faults err.old ≤ E.faults err.new }
+{
+    match check_message(alloc, check) {
+        Ok(text) => tell(err, &text, Status::BadDump),
+        Err(_) => tell_memory(err),
+    }
+}
+
+/// The dump of a file, or what is told where it is none.
+pub fn check_dump<'a, E: Sink>(
+    alloc: Global,
+    file: &'a DumpFile,
+    err: &mut E,
+) -> Result<Dump<Words<'a>>, Status>
+    ensures opened { (name : Text) (files : Option Files) → IsFile name files file.now.words.items file.now.bytes
+        → MatchResult result (λ d. IsOpened name files (dump_in d.bank.words.now))
+        (StopsAtCheck name files (E.written err.old) (E.written err.new) (E.faults err.old) (E.faults err.new)) }
+    ensures quiet { OnOk result ((E.written err.new ≡ E.written err.old) × (E.faults err.new ≡ E.faults err.old)) }
+    ensures later_err { E.faults err.old ≤ E.faults err.new }
+{
+    match open_dump(alloc, &file.words, file.bytes, Words::new(&file.words)) {
+        Ok(dump) => Ok(dump),
+        Err(OpenFault::Malformed { check }) => Err(refuse_check(alloc, err, check)),
+        Err(OpenFault::Memory) => Err(tell_memory(err)),
     }
 }

@@ -3,27 +3,26 @@ ghost use Rattle.std.specs.Prelude.{◌≡◌, ◌≢◌, ◌-◌, ◌≤◌, �
 ghost use Rattle.sx_edge.specs.Shelf.{idle};
 ghost use Rattle.sx_spec.specs.declared.Status.TheVariants.{BadInput};
 ghost use Rattle.sx_spec.specs.Command.{query as query_of};
-ghost use Rattle.sx_spec.specs.FirstPath.{first_path};
 ghost use Rattle.sx_spec.specs.Messages.{message};
 ghost use Rattle.sx_spec.specs.Run.{Promise};
 ghost use Rattle.sx_spec.specs.World.{world};
+ghost use Rattle.sx_spec_program.specs.Program.{func_program};
 ghost use Rattle.sx_cli.specs.Serving.{Ends};
 ghost use Rattle.sx_cli.specs.Telling.{Tells};
 
 use crate::keys::MAX_LINE;
-use crate::messages::{memory_message, no_dump_message, unknown_form_message};
-use crate::open::{Opened, open_dump};
+use crate::open::{check_dump, find_dump};
 use crate::serve::{FIRST_REFUSED, Served, serve};
-use crate::telling::tell;
-use crate::text_buffer::TextBuffer;
+use crate::telling::{Place, fail, tell, tell_memory};
 use std::alloc::Global;
 use std::sync::ledger::Ledger;
 use sx_edge::line::LineReader;
-use sx_edge::shelf::{ReadFault, Shelf};
+use sx_edge::shelf::Shelf;
 use sx_edge::sink::Sink;
 use sx_edge::source::Source;
 use sx_spec::Status;
 use sx_steps::Steps;
+use sx_text::buffer::TextBuffer;
 
 /// Tells why a query line isn't answered. The buffer's memory serves for the message.
 fn refuse_line<E: Sink>(text: &mut TextBuffer, err: &mut E, line: u64, told: &str) -> Status
@@ -49,13 +48,14 @@ fn end<E: Sink>(served: Served, text: &mut TextBuffer, err: &mut E) -> Status
         Served::Done => Status::Done,
         Served::TooLong { line } => refuse_line(text, err, line, ": longer than 8191 bytes"),
         Served::TooMany => refuse_line(text, err, FIRST_REFUSED, ": more than 4294967296 queries"),
-        Served::InputFailed | Served::OutputFailed => Status::Fault,
+        Served::InputFailed => fail(err, Place::Input),
+        Served::OutputFailed => fail(err, Place::Output),
     }
 }
 
 /// Answers the lines of input by the dump that is the file of this name, each by its reply and a
-/// line feed, in at most eight reads of the dump's words for each. Memory is wanting only before
-/// the first line.
+/// line feed, within the reads of the dump's words that its kind has. Memory is wanting only
+/// before the first line.
 pub fn query<F: Shelf, S: Source, O: Sink, E: Sink, L: Ledger>(
     alloc: Global,
     name: &str,
@@ -66,28 +66,29 @@ pub fn query<F: Shelf, S: Source, O: Sink, E: Sink, L: Ledger>(
     steps: &mut Steps<L>,
 ) -> Status
     requires { F.in_use files.old ≡ idle }
-    ensures promise { Promise first_path (query_of name.now)
+    ensures promise { Promise func_program (query_of name.now)
         (world (F.files files.old) (S.left input.old) (O.written out.old) (E.written err.old) (F.faults files.old) (S.faults input.old) (O.faults out.old) (E.faults err.old))
         (world (F.files files.new) (S.left input.new) (O.written out.new) (E.written err.new) (F.faults files.new) (S.faults input.new) (O.faults out.new) (E.faults err.new))
         (steps.new - steps.old) result }
     ensures closed { F.in_use files.new ≡ idle }
     ensures counted { steps.old ≤ steps.new }
 {
-    let (keys, words) = match open_dump(alloc, files, name) {
-        Ok(Opened::Dump { keys, words }) => (keys, words),
-        Ok(Opened::NoFile) => return tell(err, &no_dump_message(), Status::BadDump),
-        Ok(Opened::UnknownForm) => return tell(err, &unknown_form_message(), Status::BadDump),
-        Err(ReadFault::Failed) => return Status::Fault,
-        Err(ReadFault::Memory) => return tell(err, &memory_message(), Status::Memory),
+    let file = match find_dump(alloc, files, name, err) {
+        Ok(file) => file,
+        Err(status) => return status,
+    };
+    let dump = match check_dump(alloc, &file, err) {
+        Ok(dump) => dump,
+        Err(status) => return status,
     };
     let mut reader = match LineReader::new(alloc, MAX_LINE) {
         Ok(reader) => reader,
-        Err(_) => return tell(err, &memory_message(), Status::Memory),
+        Err(_) => return tell_memory(err),
     };
     let mut replies = match TextBuffer::new(alloc) {
         Ok(replies) => replies,
-        Err(_) => return tell(err, &memory_message(), Status::Memory),
+        Err(_) => return tell_memory(err),
     };
-    let served = serve(&words, keys, &mut reader, &mut replies, input, out, steps);
+    let served = serve(&dump, &mut reader, &mut replies, input, out, steps);
     end(served, &mut replies, err)
 }

@@ -1,23 +1,40 @@
 //! A run of the program.
-ghost use Rattle.std.specs.Prelude.{◌≡◌, ◌-◌, ◌≤◌};
+ghost use Rattle.std.specs.Prelude.{◌≡◌, ◌-◌, ◌≤◌, ◌⊎◌};
 ghost use Rattle.sx_edge.specs.Shelf.{idle};
-ghost use Rattle.sx_spec.specs.FirstPath.{first_path, first_command};
+ghost use Rattle.sx_spec.specs.declared.Status.TheVariants.{Memory, Usage};
+ghost use Rattle.sx_spec.specs.Messages.{memory_text, usage_text};
 ghost use Rattle.sx_spec.specs.Run.{Promise};
 ghost use Rattle.sx_spec.specs.World.{world};
+ghost use Rattle.sx_spec_program.specs.Offer.{offered};
+ghost use Rattle.sx_spec_program.specs.Program.{func_offer, func_program};
+ghost use Rattle.sx_cli.specs.Telling.{Tells};
 
 use crate::build::build;
-use crate::command::{Task, command};
 use crate::messages::usage_message;
 use crate::query::query;
-use crate::telling::tell;
+use crate::show::{Wanted, show};
+use crate::telling::{tell, tell_memory};
 use std::alloc::Global;
 use std::sync::ledger::Ledger;
 use sx_edge::shelf::Shelf;
 use sx_edge::sink::Sink;
 use sx_edge::source::Source;
 use sx_edge::words::WordList;
-use sx_spec::Status;
+use sx_spec::{Rule, Status};
 use sx_steps::Steps;
+use sx_words::{Task, read_words};
+
+/// Tells which rule of usage the words break.
+fn refuse_words<E: Sink>(alloc: Global, err: &mut E, rule: Rule) -> Status
+    ensures told { Tells (usage_text rule) Usage (E.written err.old) (E.written err.new) (E.faults err.old) (E.faults err.new) result
+        ⊎ Tells memory_text Memory (E.written err.old) (E.written err.new) (E.faults err.old) (E.faults err.new) result }
+    ensures later { E.faults err.old ≤ E.faults err.new }
+{
+    match usage_message(alloc, rule) {
+        Ok(text) => tell(err, &text, Status::Usage),
+        Err(_) => tell_memory(err),
+    }
+}
 
 /// Does what the words ask for, over these objects. The steps rise by the reads of a dump's words.
 ///
@@ -35,17 +52,23 @@ pub fn run<F: Shelf, S: Source, O: Sink, E: Sink, L: Ledger>(
     steps: &mut Steps<L>,
 ) -> Status
     requires { F.in_use files.old ≡ idle }
-    ensures promise { Promise first_path (first_command words.now)
+    ensures promise { Promise func_program (offered func_offer words.now)
         (world (F.files files.old) (S.left input.old) (O.written out.old) (E.written err.old) (F.faults files.old) (S.faults input.old) (O.faults out.old) (E.faults err.old))
         (world (F.files files.new) (S.left input.new) (O.written out.new) (E.written err.new) (F.faults files.new) (S.faults input.new) (O.faults out.new) (E.faults err.new))
         (steps.new - steps.old) result }
     ensures closed { F.in_use files.new ≡ idle }
     ensures counted { steps.old ≤ steps.new }
 {
-    match command(words) {
-        Task::Build { dump } => build(alloc, dump, files, input, out, err),
-        Task::Query { dump } => query(alloc, dump, files, input, out, err, steps),
-        Task::Usage => tell(err, &usage_message(), Status::Usage),
+    let task = match read_words(alloc, words) {
+        Ok(task) => task,
+        Err(_) => return tell_memory(err),
+    };
+    match task {
+        Task::Usage(rule) => refuse_words(alloc, err, rule),
+        Task::Build(task) => build(alloc, &task, files, input, out, err),
+        Task::Query(name) => query(alloc, name.as_str(), files, input, out, err, steps),
+        Task::Open(name) => show(alloc, name.as_str(), Wanted::Line, files, out, err),
+        Task::Dump(name) => show(alloc, name.as_str(), Wanted::Whole, files, out, err),
     }
 }
 

@@ -2,30 +2,25 @@
 ghost use Rattle.std.specs.Prelude.{◌≡◌, ◌≢◌, ◌+◌, ◌-◌, ◌≤◌, ◌++◌, Some, None, false, [], ◌∷◌, length, OnOk, OnErr};
 ghost use Rattle.sx_edge.specs.Parts.{AppendsPrefix};
 ghost use Rattle.sx_spec.specs.Causes.{HasCause};
-ghost use Rattle.sx_spec.specs.Reply.{answers, reply};
-ghost use Rattle.sx_cli.specs.Opening.{AreDumpWords, dump_in};
+ghost use Rattle.sx_spec.specs.Reply.{answers, reads};
+ghost use Rattle.sx_dump.specs.Opening.{dump_in};
 ghost use Rattle.sx_cli.specs.Serving.{ServedTo, WritesHeld, Finishes};
 
 use crate::keys::MAX_LINE;
-use crate::text_buffer::TextBuffer;
 use std::sync::ledger::Ledger;
-use sx_bits::BitView;
+use sx_dump::Dump;
 use sx_edge::line::{LineFault, LineReader, Step};
 use sx_edge::sink::Sink;
 use sx_edge::source::{Failed, Source};
-use sx_fields::bank::Words;
-use sx_sig::sign;
-use sx_static::FuncView;
+use sx_fields::bank::WordBank;
 use sx_steps::Steps;
+use sx_text::buffer::TextBuffer;
 
 /// How many query lines are answered at most.
 const MAX_QUERIES: u64 = 4_294_967_296;
 
 /// The number of the first line that isn't answered, where there are too many.
 pub const FIRST_REFUSED: u64 = MAX_QUERIES + 1;
-
-/// The word at which the chunk table of the dump's function begins.
-const TABLE: usize = 12;
 
 /// What the lines came to.
 #[derive(Clone, Copy, Debug, PartialEq, Eq)]
@@ -42,19 +37,6 @@ pub enum Served {
     OutputFailed,
 }
 
-/// The dump's reply to a line of at most 8,191 bytes, in at most eight reads.
-fn reply_to<L: Ledger>(words: &[u64], keys: u32, line: &[u8], steps: &mut Steps<L>) -> u64
-    requires dump { AreDumpWords keys words.now }
-    requires short { length line.now ≤ 8191 }
-    ensures value { reply (dump_in keys words.now) line.now ≡ Some result }
-    ensures counted { steps.old ≤ steps.new }
-    ensures cost { steps.new ≤ steps.old + 8 }
-{
-    let view = FuncView::new(Words::new(words), TABLE, 64, keys);
-    let sig = sign(0, &BitView::key_bits(line), None, 192);
-    view.answer(&sig, steps)
-}
-
 /// Writes what is held of the answers, where the next line can't be told without a read or the
 /// buffer is full.
 fn write_held<O: Sink>(replies: &mut TextBuffer, ready: bool, out: &mut O) -> Result<(), Failed>
@@ -69,21 +51,19 @@ fn write_held<O: Sink>(replies: &mut TextBuffer, ready: bool, out: &mut O) -> Re
 }
 
 /// Puts the reply to a line behind the others.
-fn put_reply<L: Ledger>(
-    words: &[u64],
-    keys: u32,
+fn put_reply<B: WordBank + Copy, L: Ledger>(
+    dump: &Dump<B>,
     line: &[u8],
     replies: &mut TextBuffer,
     steps: &mut Steps<L>,
 )
-    requires dump { AreDumpWords keys words.now }
     requires short { length line.now ≤ 8191 }
-    requires room { length replies.old ≤ 65515 }
-    ensures put { replies.new ≡ replies.old ++ answers (dump_in keys words.now) (line.now ∷ []) }
+    requires room { length replies.old ≤ 65494 }
+    ensures put { replies.new ≡ replies.old ++ answers (dump_in (B.words_of dump.now.bank)) (line.now ∷ []) }
     ensures counted { steps.old ≤ steps.new }
-    ensures cost { steps.new ≤ steps.old + 8 }
+    ensures cost { steps.new ≤ steps.old + reads (dump_in (B.words_of dump.now.bank)) line.now }
 {
-    replies.push_number(reply_to(words, keys, line, steps));
+    replies.push_reply(dump.reply(line, steps));
     replies.push(b"\n");
 }
 
@@ -101,19 +81,17 @@ fn finish<O: Sink>(replies: &mut TextBuffer, out: &mut O, served: Served) -> Ser
 
 /// Answers the lines of input by the dump in order, a number and a line feed for each. What is
 /// held of the answers is written before input is read, so that each is seen before the next wait.
-pub fn serve<S: Source, O: Sink, L: Ledger>(
-    words: &[u64],
-    keys: u32,
+pub fn serve<B: WordBank + Copy, S: Source, O: Sink, L: Ledger>(
+    dump: &Dump<B>,
     reader: &mut LineReader,
     replies: &mut TextBuffer,
     input: &mut S,
     out: &mut O,
     steps: &mut Steps<L>,
 ) -> Served
-    requires dump { AreDumpWords keys words.now }
     requires fresh { reader.old ≡ record { max = 8191; number = 0; held = []; ended = false; fault = None; line = None } }
     requires empty { replies.old ≡ [] }
-    ensures served { ServedTo (dump_in keys words.now)
+    ensures served { ServedTo (dump_in (B.words_of dump.now.bank))
         (record { input = S.left input.old; out = O.written out.old; input_faults = S.faults input.old; out_faults = O.faults out.old })
         (record { input = S.left input.new; out = O.written out.new; input_faults = S.faults input.new; out_faults = O.faults out.new })
         (steps.new - steps.old) result }
@@ -133,7 +111,7 @@ pub fn serve<S: Source, O: Sink, L: Ledger>(
                 if reader.number() > MAX_QUERIES {
                     return finish(replies, out, Served::TooMany);
                 }
-                put_reply(words, keys, reader.line(), replies, steps);
+                put_reply(dump, reader.line(), replies, steps);
             }
             Ok(Step::End) => return finish(replies, out, Served::Done),
             Err(LineFault::TooLong { line }) => {

@@ -46,27 +46,21 @@ fn run_once(
     run_counted::<Brand>(alloc, words, files, input, out, err, Blank::new(1))
 }
 
-fn build_words(alloc: Global) -> Result<WordList, AllocError> {
+/// The words of a command line, which stand between spaces.
+fn words_of(alloc: Global, line: &str) -> Result<WordList, AllocError> {
     let mut words = WordList::new(alloc);
-    words.push("build")?;
-    words.push("func")?;
-    words.push("D")?;
-    Ok(words)
-}
-
-fn query_words(alloc: Global) -> Result<WordList, AllocError> {
-    let mut words = WordList::new(alloc);
-    words.push("query")?;
-    words.push("D")?;
+    for word in line.split(' ') {
+        words.push(word)?;
+    }
     Ok(words)
 }
 
 fn calm_sink(alloc: Global) -> Result<MemSink, AllocError> {
-    MemSink::new(alloc, 4096, 1000, Vec::new(alloc))
+    MemSink::new(alloc, 65536, 1000, Vec::new(alloc))
 }
 
 fn source_of(alloc: Global, bytes: &[u8]) -> Result<MemSource, AllocError> {
-    Ok(MemSource::new(Vec::from_slice(alloc, bytes)?, 3, Vec::new(alloc)))
+    Ok(MemSource::new(Vec::from_slice(alloc, bytes)?, 300, Vec::new(alloc)))
 }
 
 /// A shelf with room for one small dump.
@@ -82,7 +76,7 @@ fn shelf_with_room(alloc: Global) -> Result<MemShelf, AllocError>
 fn comes_to(
     rt: &impl Abort,
     alloc: Global,
-    words: &WordList,
+    line: &str,
     files: &mut MemShelf,
     input: &[u8],
     status: Status,
@@ -92,114 +86,283 @@ fn comes_to(
     requires idle { use_of files.old.used ≡ idle }
     ensures closed { use_of files.new.used ≡ idle }
 {
+    let words = words_of(alloc, line)?;
     let mut input = source_of(alloc, input)?;
     let mut out = calm_sink(alloc)?;
     let mut err = calm_sink(alloc)?;
-    let ended = run_once(alloc, words, files, &mut input, &mut out, &mut err);
+    let ended = run_once(alloc, &words, files, &mut input, &mut out, &mut err);
     assert_eq!(rt; ended, status);
     assert_eq!(rt; out.bytes(), out_text);
     assert_eq!(rt; err.bytes(), err_text);
     Ok(())
 }
 
-fn builds(rt: &impl Abort, alloc: Global, keys: &[u8], line: &[u8]) -> Result<(), Fail> {
+/// Runs a build over these keys, which is refused with this text.
+fn refuses(
+    rt: &impl Abort,
+    alloc: Global,
+    line: &str,
+    keys: &[u8],
+    status: Status,
+    text: &[u8],
+) -> Result<(), Fail> {
     let mut files = shelf_with_room(alloc)?;
+    comes_to(rt, alloc, line, &mut files, keys, status, b"", text)
+}
+
+/// Runs a build over these keys, which is done with this line.
+fn builds(
+    rt: &impl Abort,
+    alloc: Global,
+    line: &str,
+    keys: &[u8],
+    text: &[u8],
+) -> Result<(), Fail> {
+    let mut files = shelf_with_room(alloc)?;
+    comes_to(rt, alloc, line, &mut files, keys, Status::Done, text, b"")
+}
+
+#[test]
+fn few_keys_are_built(rt: HostRuntime) -> Result<(), Fail> {
+    let line = "build func D";
+    builds(&rt, rt.alloc(), line, b"", b"keys 0 seed 0 words 14\n")?;
+    builds(&rt, rt.alloc(), line, b"a\n", b"keys 1 seed 0 words 14\n")?;
+    builds(&rt, rt.alloc(), line, b"a\nb", b"keys 2 seed 0 words 15\n")
+}
+
+#[test]
+fn the_first_line_that_is_no_key_is_named(rt: HostRuntime) -> Result<(), Fail> {
+    let line = "build func D";
+    let status = Status::BadInput;
+    let text = b"sux: line 2: below the line before\n";
+    refuses(&rt, rt.alloc(), line, b"b\na\n", status, text)?;
+    let text = b"sux: line 2: equal to the line before\n";
+    refuses(&rt, rt.alloc(), line, b"a\na\n", status, text)?;
+    let text = b"sux: line 2: holds a zero byte\n";
+    refuses(&rt, rt.alloc(), line, b"b\n\0\n", status, text)
+}
+
+#[test]
+fn lines_of_8191_bytes_are_keys(rt: HostRuntime) -> Result<(), Fail> {
+    let mut key = Vec::new(rt.alloc());
+    for _ in 0..8191u32 {
+        key.push(b'x')?;
+    }
+    let line = "build func D";
+    builds(&rt, rt.alloc(), line, &key, b"keys 1 seed 0 words 14\n")?;
+    key.push(b'x')?;
+    let text = b"sux: line 1: longer than 8191 bytes\n";
+    refuses(&rt, rt.alloc(), line, &key, Status::BadInput, text)
+}
+
+#[test]
+fn rules_of_usage_are_told(rt: HostRuntime) -> Result<(), Fail> {
+    let status = Status::Usage;
+    let rows = [
+        ("frob", "sux: usage: unknown command\n"),
+        ("build lcp", "sux: usage: bad words\n"),
+        ("build lcp D --seeds 1 --seeds 2", "sux: usage: bad words\n"),
+        ("build func D --seeds", "sux: usage: bad words\n"),
+        ("build tree D", "sux: usage: unknown kind\n"),
+        ("build lcp D", "sux: usage: unknown kind\n"),
+        (
+            "build func D --sig-bits=193",
+            "sux: usage: bad value for --sig-bits\n",
+        ),
+        (
+            "build func D --seeds 1,,2",
+            "sux: usage: bad value for --seeds\n",
+        ),
+    ];
+    for (line, text) in rows {
+        refuses(&rt, rt.alloc(), line, b"a\n", status, text.as_bytes())?;
+    }
+    Ok(())
+}
+
+#[test]
+fn each_seed_that_fails_is_told(rt: HostRuntime) -> Result<(), Fail> {
+    let line = "build func D --seeds 7,8 --sig-bits 0";
+    let text =
+        b"sux: seed 7: part values: strings 0 and 1 have one signature\nsux: seed 8: part values: strings 0 and 1 have one signature\nsux: no handed seed works\n";
+    refuses(&rt, rt.alloc(), line, b"a\nb\n", Status::SeedsFailed, text)
+}
+
+#[test]
+fn values_are_those_of_their_file(rt: HostRuntime) -> Result<(), Fail> {
+    let mut files = shelf_with_room(rt.alloc())?;
+    files.put("V", b"10\n7\n")?;
+    let line = "build func D --values V --method gov3";
+    let text = b"keys 2 seed 0 words 15\n";
     comes_to(
-        rt,
-        alloc,
-        &build_words(alloc)?,
-        &mut files,
-        keys,
-        Status::Done,
+        &rt,
+        rt.alloc(),
         line,
+        &mut files,
+        b"a\nb\n",
+        Status::Done,
+        text,
+        b"",
+    )?;
+    let line = "query D";
+    comes_to(
+        &rt,
+        rt.alloc(),
+        line,
+        &mut files,
+        b"b\na\n",
+        Status::Done,
+        b"7\n10\n",
+        b"",
+    )?;
+    files.put("V", b"18446744073709551615")?;
+    let line = "build func D --values V";
+    let text = b"keys 1 seed 0 words 20\n";
+    comes_to(
+        &rt,
+        rt.alloc(),
+        line,
+        &mut files,
+        b"a\n",
+        Status::Done,
+        text,
+        b"",
+    )?;
+    let line = "query D";
+    let text = b"18446744073709551615\n";
+    comes_to(
+        &rt,
+        rt.alloc(),
+        line,
+        &mut files,
+        b"a\n",
+        Status::Done,
+        text,
         b"",
     )
 }
 
-fn refuses(rt: &impl Abort, alloc: Global, keys: &[u8], text: &[u8]) -> Result<(), Fail> {
-    let mut files = shelf_with_room(alloc)?;
+#[test]
+fn values_files_are_refused(rt: HostRuntime) -> Result<(), Fail> {
+    let mut files = shelf_with_room(rt.alloc())?;
+    let line = "build func D --values V";
+    let status = Status::BadInput;
+    let text = b"sux: values: no such file\n";
     comes_to(
-        rt,
-        alloc,
-        &build_words(alloc)?,
+        &rt,
+        rt.alloc(),
+        line,
         &mut files,
-        keys,
-        Status::BadInput,
+        b"a\nb\n",
+        status,
+        b"",
+        text,
+    )?;
+    files.put("V", b"10\n")?;
+    let text = b"sux: values: 1 values for 2 keys\n";
+    comes_to(
+        &rt,
+        rt.alloc(),
+        line,
+        &mut files,
+        b"a\nb\n",
+        status,
+        b"",
+        text,
+    )?;
+    files.put("V", b"10\n7\n3\n")?;
+    let text = b"sux: values line 3: more values than keys\n";
+    comes_to(
+        &rt,
+        rt.alloc(),
+        line,
+        &mut files,
+        b"a\nb\n",
+        status,
+        b"",
+        text,
+    )?;
+    files.put("V", b"10\n01\n")?;
+    let text = b"sux: values line 2: not a number\n";
+    comes_to(
+        &rt,
+        rt.alloc(),
+        line,
+        &mut files,
+        b"a\nb\n",
+        status,
         b"",
         text,
     )
 }
 
 #[test]
-fn few_keys_are_built(rt: HostRuntime) -> Result<(), Fail> {
-    builds(&rt, rt.alloc(), b"", b"keys 0 seed 0 words 14\n")?;
-    builds(&rt, rt.alloc(), b"a\n", b"keys 1 seed 0 words 20\n")?;
-    builds(&rt, rt.alloc(), b"a\nb", b"keys 2 seed 0 words 20\n")
-}
-
-#[test]
-fn the_first_line_that_is_no_key_is_named(rt: HostRuntime) -> Result<(), Fail> {
-    refuses(
-        &rt,
-        rt.alloc(),
-        b"b\na\n",
-        b"sux: line 2: below the line before\n",
-    )?;
-    refuses(
-        &rt,
-        rt.alloc(),
-        b"a\na\n",
-        b"sux: line 2: equal to the line before\n",
-    )?;
-    refuses(
-        &rt,
-        rt.alloc(),
-        b"b\n\0\n",
-        b"sux: line 2: holds a zero byte\n",
-    )
-}
-
-#[test]
-fn the_1025th_key_is_refused(rt: HostRuntime) -> Result<(), Fail> {
-    let mut keys = Vec::new(rt.alloc());
-    for i in 0..1025u16 {
-        keys.push((i / 1000 + 48) as u8)?;
-        keys.push((i / 100 % 10 + 48) as u8)?;
-        keys.push((i / 10 % 10 + 48) as u8)?;
-        keys.push((i % 10 + 48) as u8)?;
-        keys.push(b'\n')?;
-    }
-    refuses(
-        &rt,
-        rt.alloc(),
-        &keys,
-        b"sux: line 1025: beyond the first path\n",
-    )
-}
-
-#[test]
 fn a_dump_answers(rt: HostRuntime) -> Result<(), Fail> {
     let mut files = shelf_with_room(rt.alloc())?;
-    let words = build_words(rt.alloc())?;
+    let line = "build func D";
+    let text = b"keys 3 seed 0 words 15\n";
     comes_to(
         &rt,
         rt.alloc(),
-        &words,
+        line,
         &mut files,
         b"a\nb\nbc\n",
         Status::Done,
-        b"keys 3 seed 0 words 23\n",
+        text,
         b"",
     )?;
-    let words = query_words(rt.alloc())?;
+    let line = "query D";
+    let text = b"2\n0\n0\n1\n";
     comes_to(
         &rt,
         rt.alloc(),
-        &words,
+        line,
         &mut files,
         b"bc\na\na\nb",
         Status::Done,
-        b"2\n0\n0\n1\n",
+        text,
+        b"",
+    )?;
+    let line = "open D";
+    let text = b"func keys 3 words 15\n";
+    comes_to(
+        &rt,
+        rt.alloc(),
+        line,
+        &mut files,
+        b"",
+        Status::Done,
+        text,
+        b"",
+    )
+}
+
+#[test]
+fn a_dump_is_shown(rt: HostRuntime) -> Result<(), Fail> {
+    let mut files = shelf_with_room(rt.alloc())?;
+    let line = "build func D";
+    let text = b"keys 0 seed 0 words 14\n";
+    comes_to(
+        &rt,
+        rt.alloc(),
+        line,
+        &mut files,
+        b"",
+        Status::Done,
+        text,
+        b"",
+    )?;
+    let line = "dump D";
+    let text =
+        b"layout 1\nkind func\nmethod mwhc\nkeys 0\nseed 0\nsig-bits 192\nlog-bucket 0\nsigned 0\nhandle-bits 0\nfunction values width 0 pairs 0 chunks 1 cells 0\nchunk 0 segment 0 try 0\n";
+    comes_to(
+        &rt,
+        rt.alloc(),
+        line,
+        &mut files,
+        b"",
+        Status::Done,
+        text,
         b"",
     )
 }
@@ -207,53 +370,49 @@ fn a_dump_answers(rt: HostRuntime) -> Result<(), Fail> {
 #[test]
 fn what_is_no_dump_is_told(rt: HostRuntime) -> Result<(), Fail> {
     let mut files = MemShelf::new(rt.alloc(), Vec::new(rt.alloc()));
-    let words = query_words(rt.alloc())?;
+    let status = Status::BadDump;
+    let text = b"sux: dump: no such file\n";
     comes_to(
         &rt,
         rt.alloc(),
-        &words,
+        "query D",
         &mut files,
         b"a\n",
-        Status::BadDump,
+        status,
         b"",
-        b"sux: dump: no such file\n",
+        text,
     )?;
     files.put("D", b"words")?;
+    let text = b"sux: dump: check 1\n";
     comes_to(
         &rt,
         rt.alloc(),
-        &words,
+        "query D",
         &mut files,
         b"a\n",
-        Status::BadDump,
+        status,
         b"",
-        b"sux: dump: unknown form\n",
-    )
-}
-
-#[test]
-fn other_words_are_no_command(rt: HostRuntime) -> Result<(), Fail> {
-    let mut files = MemShelf::new(rt.alloc(), Vec::new(rt.alloc()));
-    let words = WordList::new(rt.alloc());
+        text,
+    )?;
     comes_to(
         &rt,
         rt.alloc(),
-        &words,
+        "open D",
         &mut files,
         b"a\n",
-        Status::Usage,
+        status,
         b"",
-        b"sux: usage: bad words\n",
+        text,
     )
 }
 
 #[test]
 fn failures_end_a_run(rt: HostRuntime) -> Result<(), Fail> {
     let mut files = shelf_with_room(rt.alloc())?;
-    let words = build_words(rt.alloc())?;
+    let words = words_of(rt.alloc(), "build func D")?;
     let mut out = calm_sink(rt.alloc())?;
     let mut err = calm_sink(rt.alloc())?;
-    let fails = Vec::from_slice(rt.alloc(), &[2])?;
+    let fails = Vec::from_slice(rt.alloc(), &[3])?;
     let bytes = Vec::from_slice(rt.alloc(), b"a\nb\n")?;
     let mut input = MemSource::new(bytes, 2, fails);
     let status = run_once(
@@ -265,73 +424,50 @@ fn failures_end_a_run(rt: HostRuntime) -> Result<(), Fail> {
         &mut err,
     );
     assert_eq!(rt; status, Status::Fault);
+    assert_eq!(rt; err.bytes(), b"sux: fault: input\n".as_slice());
     assert!(rt; files.bytes("D").is_none());
     Ok(())
 }
 
 #[test]
-fn a_dump_has_its_words(rt: HostRuntime) -> Result<(), Fail> {
-    let mut files = shelf_with_room(rt.alloc())?;
-    let words = build_words(rt.alloc())?;
-    let line = b"keys 1 seed 0 words 20\n";
-    comes_to(
-        &rt,
-        rt.alloc(),
-        &words,
-        &mut files,
-        b"a\n",
-        Status::Done,
-        line,
-        b"",
-    )?;
-    let bytes = Vec::from_slice(rt.alloc(), files.bytes("D").unwrap_or(b""))?;
-    assert_eq!(rt; bytes.len(), 160);
-    assert!(rt; bytes.starts_with(b"SUXDUMP1"));
-    let numbers = [20u8, 0, 0, 1, 0, 192, 0, 0, 0, 64, 1, 0, 6];
-    for (number, word) in numbers.iter().zip(bytes.chunks(8).skip(1)) {
-        assert_eq!(rt; word.first(), Some(number));
+fn a_long_text_stops_at_a_full_sink(rt: HostRuntime) -> Result<(), Fail> {
+    // 4,294,967,295 cells of no bits
+    let words = [14u64, 0, 0, 1, 0, 192, 0, 0, 0, 0, 1, 0, 4_294_967_295];
+    let mut bytes = Vec::from_slice(rt.alloc(), b"SUXDUMP1")?;
+    for word in words {
+        bytes.extend_from_slice(&word.to_le_bytes())?;
     }
+    let mut files = MemShelf::new(rt.alloc(), Vec::new(rt.alloc()));
+    files.put("D", &bytes)?;
+    let line = words_of(rt.alloc(), "dump D")?;
+    let mut input = source_of(rt.alloc(), b"")?;
+    let mut out = calm_sink(rt.alloc())?;
+    let mut err = calm_sink(rt.alloc())?;
+    let status = run_once(
+        rt.alloc(),
+        &line,
+        &mut files,
+        &mut input,
+        &mut out,
+        &mut err,
+    );
+    assert_eq!(rt; status, Status::Fault);
+    assert_eq!(rt; out.bytes().len(), 65536);
+    assert_eq!(rt; err.bytes(), b"sux: fault: output\n".as_slice());
     Ok(())
 }
 
 #[test]
-fn a_longer_file_is_no_dump(rt: HostRuntime) -> Result<(), Fail> {
-    let mut files = shelf_with_room(rt.alloc())?;
-    let words = build_words(rt.alloc())?;
-    let line = b"keys 1 seed 0 words 20\n";
-    comes_to(
-        &rt,
-        rt.alloc(),
-        &words,
-        &mut files,
-        b"a\n",
-        Status::Done,
-        line,
-        b"",
-    )?;
-    let words = query_words(rt.alloc())?;
-    comes_to(
-        &rt,
-        rt.alloc(),
-        &words,
-        &mut files,
-        b"a\n\n",
-        Status::Done,
-        b"0\n0\n",
-        b"",
-    )?;
-    let mut bytes = Vec::from_slice(rt.alloc(), files.bytes("D").unwrap_or(b""))?;
-    bytes.push(0)?;
-    files.put("D", &bytes)?;
-    let text = b"sux: dump: unknown form\n";
-    comes_to(
-        &rt,
-        rt.alloc(),
-        &words,
-        &mut files,
-        b"a\n",
-        Status::BadDump,
-        b"",
-        text,
-    )
+fn few_bits_make_twins_for_each_seed(rt: HostRuntime) -> Result<(), Fail> {
+    let mut keys = Vec::new(rt.alloc());
+    for i in 0..300u16 {
+        keys.push((i / 100 + 48) as u8)?;
+        keys.push((i / 10 % 10 + 48) as u8)?;
+        keys.push((i % 10 + 48) as u8)?;
+        keys.push(b'\n')?;
+    }
+    let text =
+        b"sux: seed 0: part values: strings 0 and 18 have one signature\nsux: seed 1: part values: strings 12 and 30 have one signature\nsux: seed 2: part values: strings 16 and 17 have one signature\nsux: seed 3: part values: strings 23 and 25 have one signature\nsux: no handed seed works\n";
+    let line = "build func D --sig-bits 8";
+    refuses(&rt, rt.alloc(), line, &keys, Status::SeedsFailed, text)
 }

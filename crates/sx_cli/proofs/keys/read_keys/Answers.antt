@@ -3,12 +3,12 @@ use Rattle.std.proofs.lemmas.List.{length-append}
 use Rattle.sx_spec.specs.declared.Limits.{Limits}
 use Rattle.sx_spec.specs.Command.{Text}
 use Rattle.sx_spec.specs.Keys.{refusal, AreKeys}
-use Rattle.sx_spec.specs.FirstPath.{first_limits}
+use Rattle.sx_spec.specs.Keys.{standard_limits}
 use Rattle.sx_bits.specs.KeyLists.{Keys}
 use Rattle.sx_spec.proofs.KeyFiles.{faultless_lines_are_keys}
 use Rattle.sx_cli.specs.declared.keys.KeysStop.{KeysStop}
 use Rattle.sx_cli.specs.declared.keys.KeysStop.TheVariants.{Refused, Failed, Memory}
-use Rattle.sx_cli.specs.FirstBuild.{RefusesLine}
+use Rattle.sx_cli.specs.Building.{RefusesLine}
 use Rattle.sx_cli.specs.KeyReading.{StopsKeys, StopsPush}
 use Rattle.sx_cli.specs.declared.messages.KeyReason.{KeyReason}
 use Rattle.sx_cli.specs.KeyLines.{reason_of, fault_of}
@@ -46,12 +46,12 @@ returns-in-Err-ReadFault-clause-keys g c =
     }
 
 -- the keys with one more
-grown : (keys new : Keys) (line : Text) → keys.limits ≡ first_limits → AreKeys first_limits keys.lines → new ≡ record keys { lines = keys.lines ++ line ∷ [] } → refusal keys.limits keys.lines line ≡ None
-    → (new.limits ≡ first_limits) × (new.lines ≡ keys.lines ++ line ∷ []) × AreKeys first_limits new.lines
+grown : (keys new : Keys) (line : Text) → keys.limits ≡ standard_limits → AreKeys standard_limits keys.lines → new ≡ record keys { lines = keys.lines ++ line ∷ [] } → refusal keys.limits keys.lines line ≡ None
+    → (new.limits ≡ standard_limits) × (new.lines ≡ keys.lines ++ line ∷ []) × AreKeys standard_limits new.lines
 grown keys new line limits valid is none =
     let same : new.lines ≡ keys.lines ++ line ∷ [] = ap (λ (k : Keys). k.lines) is in
-    let none_here : refusal first_limits keys.lines line ≡ None = subst (λ (l : Limits). refusal l keys.lines line ≡ None) limits none in
-    (ap (λ (k : Keys). k.limits) is ∙ limits, same, subst (AreKeys first_limits) (sym same) (keys_grow first_limits keys.lines line valid none_here))
+    let none_here : refusal standard_limits keys.lines line ≡ None = subst (λ (l : Limits). refusal l keys.lines line ≡ None) limits none in
+    (ap (λ (k : Keys). k.limits) is ∙ limits, same, subst (AreKeys standard_limits) (sym same) (keys_grow standard_limits keys.lines line valid none_here))
 
 pub lines-preserved : goal.lines-preserved
 lines-preserved g c =
@@ -60,7 +60,7 @@ lines-preserved g c =
     let pushed = c.in-Ok-push_key.ensures in
     let (limits, same, valid) = grown c.lines.keys c.push_key.new.keys c.line.result.now i.limits i.valid pushed.0 pushed.1 in
     let progress = after_line _ _ _ c.lines.reader c.next.new.self c.lines.keys.lines i.progress gives c.line.result.now (sym c.line.ensures) in
-    let many = (faultless_lines_are_keys first_limits c.push_key.new.keys.lines valid).count in
+    let many = (faultless_lines_are_keys standard_limits c.push_key.new.keys.lines valid).count in
     record {
       progress = subst (λ (l : List Text). Progress (g.S.Source.left c.args.input.now) (g.S.Source.left c.next.new.src) c.next.new.self.held c.next.new.self.ended l) (sym same) progress;
       limits = limits;
@@ -72,8 +72,8 @@ lines-preserved g c =
       later = omega (arith, i.later, c.in-Ok-Line.ensures.later);
     }
 
-stopped : (stop : KeysStop) (limits : Limits) (keys : List Text) (line : Text) (number : ℕ) (old new : Option (List ℕ)) (before after : ℕ) → limits ≡ first_limits
-    → ((at : ℕ) (reason : KeyReason) → at ≡ number → refusal first_limits keys line ≡ Some (reason_of reason) → RefusesLine old new (fault_of at reason))
+stopped : (stop : KeysStop) (limits : Limits) (keys : List Text) (line : Text) (number : ℕ) (old new : Option (List ℕ)) (before after : ℕ) → limits ≡ standard_limits
+    → ((at : ℕ) (reason : KeyReason) → at ≡ number → refusal standard_limits keys line ≡ Some (reason_of reason) → RefusesLine old new (fault_of at reason))
     → StopsPush limits keys line number stop → StopsKeys old new before after stop
 stopped (Refused at reason) limits keys line number old new before after same refuses h = refuses at reason h.0 (subst (λ (l : Limits). refusal l keys line ≡ Some (reason_of reason)) same h.1)
 stopped Failed limits keys line number old new before after same refuses h = absurd h

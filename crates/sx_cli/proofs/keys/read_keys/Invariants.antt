@@ -1,5 +1,5 @@
 use Rattle.std.proofs.Common.{◌≡◌, ◌-◌, ◌≤◌, length, None}
-use Rattle.sx_spec.specs.FirstPath.{first_limits}
+use Rattle.sx_spec.specs.Keys.{standard_limits}
 use Rattle.sx_spec.specs.Keys.{AreKeys}
 use Rattle.sx_cli.specs.Progress.{Progress}
 use Rattle.sx_cli.proofs.keys.read_keys.Given as goal
@@ -7,14 +7,14 @@ use Rattle.sx_cli.proofs.keys.read_keys.Given as goal
 abbrev pub invariant-lines : goal.invariant-lines
 invariant-lines g l = record {
   progress : Progress (g.S.Source.left l.initial.input) (g.S.Source.left l.input) l.reader.held l.reader.ended l.keys.lines;
-  limits : l.keys.limits ≡ first_limits;
-  valid : AreKeys first_limits l.keys.lines;
+  limits : l.keys.limits ≡ standard_limits;
+  valid : AreKeys standard_limits l.keys.lines;
   number : l.reader.number ≡ length l.keys.lines;
   max : l.reader.max ≡ 8191;
   fault : l.reader.fault ≡ None;
-  few : length l.keys.lines ≤ 1024;
+  few : length l.keys.lines ≤ 4194304;
   later : g.S.Source.faults l.initial.input ≤ g.S.Source.faults l.input;
 }
 
 abbrev pub decreases-lines : goal.decreases-lines
-decreases-lines g l = 1025 - length l.keys.lines
+decreases-lines g l = 4194305 - length l.keys.lines

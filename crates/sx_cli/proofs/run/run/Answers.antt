@@ -1,42 +1,48 @@
 use Rattle.std.proofs.Common.{◌≡◌, ℕ, ◌-◌, refl, sym, ap, subst, ◌∙◌, arith}
 use Rattle.std.proofs.KnownBytes.{Keeps-refl}
-use Rattle.std.specs.Io.KnownBytes.{Keeps}
 use Rattle.sx_spec.specs.declared.Status.{Status}
-use Rattle.sx_spec.specs.declared.Status.TheVariants.{Usage}
-use Rattle.sx_spec.specs.declared.Rule.TheVariants.{BadWords}
-use Rattle.sx_spec.specs.Command.{Task, usage}
-use Rattle.sx_spec.specs.FirstPath.{first_path}
-use Rattle.sx_spec.specs.Messages.{usage_text}
-use Rattle.sx_spec.specs.Outcomes.{usage_outcome}
-use Rattle.sx_spec.specs.Run.{Promise, KeepsUnused}
-use Rattle.sx_spec.specs.World.{World, NoCountFell, KeepsFiles}
-use Rattle.sx_cli.specs.FirstCommand.{task_of}
-use Rattle.sx_cli.specs.Telling.{Tells}
-use Rattle.sx_cli.proofs.Endings.{by_message, kept_appends, same_files}
+use Rattle.sx_spec.specs.Command.{Task, query, open_dump, show_dump}
+use Rattle.sx_spec.specs.Run.{Promise}
+use Rattle.sx_spec.specs.World.{World}
+use Rattle.sx_spec_program.specs.Program.{func_program}
+use Rattle.sx_words.specs.Tasks.{task_of}
+use Rattle.sx_words.proofs.Offered.{plan_fits}
+use Rattle.sx_cli.proofs.Endings.{same_files}
+use Rattle.sx_cli.proofs.Refusals.{words_refused, words_memory}
 use Rattle.sx_cli.proofs.run.run.Goals as goal
 
--- words that are no command
-refused : (before after : World) (ticks : ℕ) → ticks ≡ 0 → (result : Status) → KeepsFiles before.files after.files → Keeps before.input after.input → Keeps before.out after.out → Tells (usage_text BadWords) Usage before.err after.err before.faults.err after.faults.err result
-    → KeepsUnused (usage BadWords) before after → NoCountFell before after → Promise first_path (usage BadWords) before after ticks result
-refused before after ticks none result files input out told unused counts =
-    by_message first_path (usage BadWords) before after ticks refl (usage_outcome BadWords) refl (usage_text BadWords) refl Usage result refl (λ e. absurd cc) (λ e. absurd cc) refl
-    files input (kept_appends before.out after.out out) told (λ name same. absurd cc) tt tt unused counts
-
 -- the promise of the same task
-as_task : (before after : World) (ticks : ℕ) (result : Status) (t task : Task) → t ≡ task → Promise first_path t before after ticks result → Promise first_path task before after ticks result
-as_task before after ticks result t task same p = subst (λ (x : Task). Promise first_path x before after ticks result) same p
+as_task : (before after : World) (ticks : ℕ) (result : Status) (t task : Task) → t ≡ task → Promise func_program t before after ticks result → Promise func_program task before after ticks result
+as_task before after ticks result t task same p = subst (λ (x : Task). Promise func_program x before after ticks result) same p
 
 pub returns-in-Build-clause-promise : goal.returns-in-Build-clause-promise
 returns-in-Build-clause-promise g c =
-    as_task _ _ (c.args.steps.now - c.args.steps.now) c.build.result _ _ (ap task_of (sym c.in-Build.is) ∙ c.command.ensures) (c.build.ensures.promise (c.args.steps.now - c.args.steps.now))
+    as_task _ _ (c.args.steps.now - c.args.steps.now) c.build.result _ _ (ap task_of (sym c.in-Build.is) ∙ c.in-Ok.ensures) (c.build.ensures.promise (c.args.steps.now - c.args.steps.now))
+
+pub build-requires-clause-plan : goal.build-requires-clause-plan
+build-requires-clause-plan g c =
+    let fits = plan_fits c.args.words.now _ (sym c.in-Ok.ensures ∙ ap task_of c.in-Build.is) in
+    record { kind = fits.kind; unsigned = fits.unsigned; buckets = fits.buckets; handles = fits.handles; bits = fits.bits }
 
 pub returns-in-Query-clause-promise : goal.returns-in-Query-clause-promise
 returns-in-Query-clause-promise g c =
-    as_task _ _ (c.query.new.steps - c.args.steps.now) c.query.result _ _ (ap task_of (sym c.in-Query.is) ∙ c.command.ensures) c.query.ensures.promise
+    as_task _ _ (c.query.new.steps - c.args.steps.now) c.query.result _ _ (ap (λ n. query n) c.as_str.ensures ∙ ap task_of (sym c.in-Query.is) ∙ c.in-Ok.ensures) c.query.ensures.promise
 
 pub returns-in-Usage-clause-promise : goal.returns-in-Usage-clause-promise
 returns-in-Usage-clause-promise g c =
-    as_task _ _ (c.args.steps.now - c.args.steps.now) c.tell.result _ _ (ap task_of (sym c.in-Usage.is) ∙ c.command.ensures)
-    (refused _ _ _ (omega arith) c.tell.result (same_files _) (Keeps-refl _) (Keeps-refl _) (rw c.usage_message.ensures at c.tell.ensures.told)
-    (record { files = same_files _; count = refl }, record { bytes = Keeps-refl _; count = refl }, record { bytes = Keeps-refl _; count = refl })
-    (record { shelf = omega arith; input = omega arith; out = omega arith; err = c.tell.ensures.later }))
+    as_task _ _ (c.args.steps.now - c.args.steps.now) c.refuse_words.result _ _ (ap task_of (sym c.in-Usage.is) ∙ c.in-Ok.ensures)
+    (words_refused _ _ _ (omega arith) (record { shelf = omega arith; input = omega arith; out = omega arith; err = c.refuse_words.ensures.later })
+    (record { files = same_files _; count = refl }) (record { bytes = Keeps-refl _; count = refl }) (record { bytes = Keeps-refl _; count = refl }) c.refuse_words.result c.in-Usage.rule c.refuse_words.ensures.told)
+
+pub returns-in-Err-clause-promise : goal.returns-in-Err-clause-promise
+returns-in-Err-clause-promise g c =
+    words_memory _ _ _ (omega arith) (record { shelf = omega arith; input = omega arith; out = omega arith; err = c.tell_memory.ensures.later })
+    (record { files = same_files _; count = refl }) (record { bytes = Keeps-refl _; count = refl }) (record { bytes = Keeps-refl _; count = refl }) c.tell_memory.result _ c.tell_memory.ensures.told
+
+pub returns-in-Open-clause-promise : goal.returns-in-Open-clause-promise
+returns-in-Open-clause-promise g c =
+    as_task _ _ (c.args.steps.now - c.args.steps.now) c.show.result _ _ (ap (λ n. open_dump n) c.as_str-in-Open.ensures ∙ ap task_of (sym c.in-Open.is) ∙ c.in-Ok.ensures) (c.show.ensures.promise _ _ (c.args.steps.now - c.args.steps.now))
+
+pub returns-in-Dump-clause-promise : goal.returns-in-Dump-clause-promise
+returns-in-Dump-clause-promise g c =
+    as_task _ _ (c.args.steps.now - c.args.steps.now) c.show-in-Dump.result _ _ (ap (λ n. show_dump n) c.as_str-in-Dump.ensures ∙ ap task_of (sym c.in-Dump.is) ∙ c.in-Ok.ensures) (c.show-in-Dump.ensures.promise _ _ (c.args.steps.now - c.args.steps.now))

@@ -1,0 +1,41 @@
+use Rattle.std.proofs.Common.{arith, sym}
+use Rattle.sx_cli.proofs.Endings.{same_files}
+use Rattle.sx_cli.proofs.Shelves.{kept_twice}
+use Rattle.sx_cli.proofs.ValueReadings.{no_values, value_read, value_stops, long_stops, values_end}
+use Rattle.sx_cli.proofs.values.read_lines.Goals as goal
+
+pub lines-init : goal.lines-init
+lines-init g c = record {
+  reading_on = no_values c.args.keys _ c.in-Ok.reader c.in-Ok-with_capacity.values.items c.in-Ok.ensures c.in-Ok-with_capacity.ensures.items;
+  later = omega arith;
+  stays = c.requires;
+  kept = same_files _;
+}
+
+pub lines-preserved : goal.lines-preserved
+lines-preserved g c =
+    let i = c.lines.invariant in
+    record {
+      reading_on = value_read c.args.keys _ _ _ c.lines.reader c.next_file.new.self c.lines.values.items i.reading_on (c.in-Ok-Line.ensures.line cc) c.line.result.now (sym c.line.ensures) c.in-Ok-Line.ensures.same c.in-Ok-Line.ensures.fault
+          c.number.result c.number.ensures c.push_value.new.values.items c.in-Ok-push_value.ensures;
+      later = omega (arith, i.later, c.in-Ok-Line.ensures.later);
+      stays = c.in-Ok-Line.ensures.stays;
+      kept = kept_twice _ _ _ i.kept c.in-Ok-Line.ensures.files;
+    }
+
+pub returns-in-Err-push_value-clause-values : goal.returns-in-Err-push_value-clause-values
+returns-in-Err-push_value-clause-values g c =
+    let i = c.lines.invariant in
+    value_stops c.args.keys _ _ _ c.lines.reader c.next_file.new.self c.lines.values.items i.reading_on (c.in-Ok-Line.ensures.line cc) c.line.result.now (sym c.line.ensures)
+    c.number.result c.number.ensures _ _ c.in-Err-push_value.stop c.in-Err-push_value.ensures
+
+pub returns-in-Err-TooLong-clause-values : goal.returns-in-Err-TooLong-clause-values
+returns-in-Err-TooLong-clause-values g c =
+    let i = c.lines.invariant in
+    let long = c.in-Err-TooLong.ensures.too_long c.in-Err-TooLong.line (cc) i.reading_on.fault in
+    long_stops c.args.keys _ _ _ c.lines.reader c.next_file.new.self c.lines.values.items i.reading_on c.in-Err-TooLong.line long _ _ c.long_line.result (rw c.in-Err-TooLong.line-is at c.long_line.ensures)
+
+pub returns-in-Ok-End-clause-values : goal.returns-in-Ok-End-clause-values
+returns-in-Ok-End-clause-values g c =
+    let i = c.lines.invariant in
+    values_end c.args.keys _ _ _ c.lines.reader c.next_file.new.self c.lines.values.items i.reading_on (c.in-Ok-End.ensures.end cc) _ _ _ (λ v. v.items) c.enough.result c.enough.ensures

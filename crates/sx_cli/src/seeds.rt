@@ -1,0 +1,47 @@
+//! The seeds of a build, in order.
+ghost use Rattle.std.specs.Prelude.{◌≡◌, ◌≤◌, ◌<◌, ◌^◌, ◌++◌, IfOk, OnOk, All, length};
+ghost use Rattle.sx_spec_kinds.specs.declared.Kind.TheVariants.{Func};
+ghost use Rattle.sx_spec.specs.Messages.{no_seed_text};
+ghost use Rattle.sx_cli.specs.Building.{IsPlan, IsTried};
+
+use crate::failures::push_failure;
+use crate::messages::built_text;
+use std::alloc::{AllocError, Global};
+use sx_bits::KeyList;
+use sx_dump::{Assembled, assemble};
+use sx_spec::Plan;
+
+/// What keys and values come to by the seeds.
+#[derive(Drop)]
+pub enum Tried {
+    /// The words of the dump that the first seed that works gives, and the line on it.
+    Dump { words: Vec<u64>, line: Vec<u8> },
+    /// No seed works; the message tells a failure of each.
+    Failed { message: Vec<u8> },
+}
+
+/// The dump of the keys and values by the first seed that works, or a failure of each seed.
+pub fn try_seeds(
+    alloc: Global,
+    plan: &Plan,
+    seeds: &[u64],
+    keys: &KeyList,
+    values: &[u64],
+) -> Result<Tried, AllocError>
+    requires values { length values.now ≡ length keys.now.lines }
+    requires plan { IsPlan plan.now }
+    ensures { IfOk result (IsTried plan.now seeds.now keys.now.lines values.now) }
+{
+    let mut message = Vec::new(alloc);
+    'tries: for seed in seeds {
+        match assemble(alloc, keys, values, plan, *seed)? {
+            Assembled::Words(words) => {
+                let line = built_text(alloc, u64::from(keys.len()), *seed, words.len() as u64)?;
+                return Ok(Tried::Dump { words, line });
+            }
+            Assembled::SeedFailed(fault) => push_failure(&mut message, plan, *seed, &fault)?,
+        }
+    }
+    message.extend_from_slice(b"sux: no handed seed works\n")?;
+    Ok(Tried::Failed { message })
+}
