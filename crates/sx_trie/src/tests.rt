@@ -1,7 +1,7 @@
 //! Small tries, the deepest one, and fattest numbers.
 
 ghost use Rattle.std.specs.Prelude.{◌≡◌, ◌≤◌, IfOk, length};
-ghost use Rattle.sx_trie.specs.Tries.{AreRising};
+ghost use Rattle.sx_trie.specs.Tries.{AreRising, IsTrieOf};
 
 use crate::{Node, Trie, fattest};
 use std::alloc::{AllocError, Global};
@@ -59,6 +59,24 @@ fn halves(rt: HostRuntime) -> Result<(), Fail> {
     Ok(())
 }
 
+/// The trie of four of eight keys.
+fn trie_of_words(alloc: Global, keys: &KeyList) -> Result<Trie, AllocError>
+    requires many { 8 ≤ length keys.now.lines }
+    ensures built { IfOk result (λ trie. IsTrieOf keys.now.lines trie) }
+    ensures some { IfOk result (λ trie. length trie.delimiters ≡ 4) }
+{
+    Trie::build(alloc, keys, &[1, 3, 4, 7])
+}
+
+/// The trie of four of six keys.
+fn trie_of_bytes(alloc: Global, keys: &KeyList) -> Result<Trie, AllocError>
+    requires many { 6 ≤ length keys.now.lines }
+    ensures built { IfOk result (λ trie. IsTrieOf keys.now.lines trie) }
+    ensures some { IfOk result (λ trie. length trie.delimiters ≡ 4) }
+{
+    Trie::build(alloc, keys, &[0, 2, 3, 5])
+}
+
 #[test]
 fn blocks_of_words(rt: HostRuntime) -> Result<(), Fail> {
     let mut keys = KeyList::new(rt.alloc(), Limits::standard());
@@ -71,7 +89,7 @@ fn blocks_of_words(rt: HostRuntime) -> Result<(), Fail> {
     keys.push(b"cat")?;
     keys.push(b"cattle")?;
     assert_eq!(rt; keys.len(), 8);
-    let trie = Trie::build(rt.alloc(), &keys, &[1, 3, 4, 7])?;
+    let trie = trie_of_words(rt.alloc(), &keys)?;
     assert_eq!(rt; trie.nodes(), 3);
     let rows: [(&[u8], u32); 11] = [
         (b"ant", 0),
@@ -104,7 +122,7 @@ fn blocks_of_any_bytes(rt: HostRuntime) -> Result<(), Fail> {
     keys.push(b"\x80\x80")?;
     keys.push(b"\xff")?;
     assert_eq!(rt; keys.len(), 6);
-    let trie = Trie::build(rt.alloc(), &keys, &[0, 2, 3, 5])?;
+    let trie = trie_of_bytes(rt.alloc(), &keys)?;
     assert_eq!(rt; trie.nodes(), 3);
     let rows: [(&[u8], u32); 8] = [
         (b"\x01", 0),
