@@ -1,10 +1,12 @@
 -- What a line reader is to a contract, and what its calls do.
-use Rattle.std.specs.Prelude.{◌≡◌, ◌≢◌, ℕ, ◌+◌, ◌<◌, ◌≤◌, ◌⊎◌, ◌||◌, nat_lt, List, [], ◌∷◌, ◌++◌, length, slice_index_or, Bool, true, false, Option, Some, is_some}
+use Rattle.std.specs.Prelude.{◌≡◌, ◌≢◌, ℕ, ◌+◌, ◌<◌, ◌≤◌, ◌⊎◌, ◌||◌, nat_lt, List, [], ◌∷◌, ◌++◌, length, slice_index_or, Bool, true, false, Option, Some, is_some, Result, Err}
 use Rattle.std.specs.List.{list_any}
 use Rattle.std.specs.Io.KnownBytes.{Consumes, IsAtEnd}
 use Rattle.sx_spec_strings.specs.Lines.{is_line_feed, lines}
 use Rattle.sx_edge.specs.Places.{HasNoFeed}
 use Rattle.sx_edge.specs.declared.line.LineFault.{LineFault}
+use Rattle.sx_edge.specs.declared.line.LineFault.TheVariants.{ReadFault}
+use Rattle.sx_edge.specs.declared.line.Step.{Step}
 
 -- a line reader
 pub record Reading : Type 0 where
@@ -73,6 +75,11 @@ pub record IsTooLong (old new : Reading) (before after : Option (List ℕ)) (n :
   pub number : new.number ≡ old.number
   pub takes : Takes old new before after []
   pub long : (rest : List ℕ) → old.max < length (first_line (new.held ++ rest))
+
+-- whether the answer of a call of `next` is that of a failed read
+abbrev pub read_failed : Result Step LineFault → Bool
+read_failed (Err ReadFault) = true
+read_failed _ = false
 
 -- ---- what the steps of a call do
 

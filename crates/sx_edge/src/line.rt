@@ -1,6 +1,6 @@
 //! The lines of a source.
 ghost use Rattle.std.specs.Prelude.{◌≡◌, ◌≢◌, ◌+◌, ◌-◌, ◌^◌, ◌<◌, ◌≤◌, ℕ, IfOk, OnErr, OnOk, length, take, drop, vec_len};
-ghost use Rattle.sx_spec.specs.Causes.{HasCause, Rose};
+ghost use Rattle.sx_spec.specs.Causes.{HasCause, Rose, StaysUnless};
 ghost use Rattle.std.specs.Io.KnownBytes.{Keeps};
 ghost use Rattle.sx_edge.specs.Places.{IsFeedPlace, TakesBehind};
 
@@ -76,7 +76,7 @@ impl Model for LineReader {
 impl LineReader {
     ghost use Rattle.std.specs.Prelude.{◌≡◌, ◌<◌, ◌≤◌, ◌+◌, ◌-◌, ◌^◌, ◌++◌, List, IfOk, [], None, true, false, length, MatchResult, OnOk, OnErr, Some, IfSome, IsSome};
     ghost use Rattle.std.specs.Io.KnownBytes.{Keeps};
-    ghost use Rattle.sx_edge.specs.Reading.{is_ready, ReadsNothing, Takes, GivesLine, GivesEnd, FailsRead, IsTooLong, SameBut, Fills, CutsLine, Waits, first_line};
+    ghost use Rattle.sx_edge.specs.Reading.{is_ready, read_failed, ReadsNothing, Takes, GivesLine, GivesEnd, FailsRead, IsTooLong, SameBut, Fills, CutsLine, Waits, first_line};
     ghost use Rattle.sx_edge.specs.declared.line.LineFault.TheVariants.{TooLong, ReadFault};
 
     /// A reader of lines of at most `max` bytes. All its memory is taken here.
@@ -141,7 +141,7 @@ impl LineReader {
         ensures ready { is_ready self.old ≡ true → ReadsNothing (S.left src.old) (S.left src.new) (S.faults src.old) (S.faults src.new) }
         ensures same { self.new.max ≡ self.old.max }
         ensures number { self.new.number ≤ self.old.number + 1 }
-        ensures later { S.faults src.old ≤ S.faults src.new }
+        ensures counts { StaysUnless (read_failed result) (S.faults src.old) (S.faults src.new) }
     {
         if let Some(fault) = self.fault {
             return Err(fault);

@@ -2,10 +2,10 @@
 ghost use Rattle.std.specs.Prelude.{◌≡◌, ◌≢◌, ◌+◌, ◌^◌, ◌<◌, ◌≤◌, ◌⊎◌, List, [], ℕ, Bool, true, false, Option, Some, Ok, Err, length, take, vec_len, IfOk, OnOk, OnErr, IsSome};
 ghost use Rattle.std.specs.Io.{ReadsAtMost};
 ghost use Rattle.std.specs.Io.KnownBytes.{ReadConsumes};
-ghost use Rattle.sx_spec.specs.Causes.{HasCause, Rose};
+ghost use Rattle.sx_spec.specs.Causes.{HasCause, Rose, StaysUnless};
 ghost use Rattle.sx_spec.specs.Command.{Text};
 ghost use Rattle.sx_spec.specs.World.{Files, KeepsFiles, SetsFile};
-ghost use Rattle.sx_edge.specs.Shelf.{Use, idle, reading, writing, Opens, IsAbsent, AppendsFile, AppendsFilePrefix, ReadsFile, TakesPiece};
+ghost use Rattle.sx_edge.specs.Shelf.{Use, idle, reading, writing, Opens, IsAbsent, AppendsFile, AppendsFilePrefix, ReadsFile, TakesPiece, file_failed};
 
 use crate::source::Failed;
 use std::alloc::{AllocError, Global};
@@ -134,7 +134,7 @@ pub fn read_file<F: Shelf>(alloc: Global, files: &mut F, max: u64) -> Result<Vec
     ensures stays { F.in_use files.new ≡ reading }
     ensures files { KeepsFiles (F.files files.old) (F.files files.new) }
     ensures failed { result ≡ Err ReadFault.Failed → Rose (F.faults files.old) (F.faults files.new) }
-    ensures later { F.faults files.old ≤ F.faults files.new }
+    ensures counts { StaysUnless (file_failed result) (F.faults files.old) (F.faults files.new) }
 {
     let mut bytes = Vec::new(alloc);
     let mut piece = piece_room(alloc)?;
@@ -161,7 +161,7 @@ fn read_piece<F: Shelf>(
     ensures stays { F.in_use files.new ≡ reading }
     ensures files { KeepsFiles (F.files files.old) (F.files files.new) }
     ensures failed { result ≡ Err ReadFault.Failed → Rose (F.faults files.old) (F.faults files.new) }
-    ensures later { F.faults files.old ≤ F.faults files.new }
+    ensures counts { StaysUnless (file_failed result) (F.faults files.old) (F.faults files.new) }
 {
     match files.read(part) {
         Ok(count) => {

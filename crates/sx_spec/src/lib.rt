@@ -2,6 +2,7 @@
 #![tactic(auto)]
 
 ghost use Rattle.std.specs.Prelude.{◌≡◌};
+ghost use Rattle.sx_spec.specs.Codes.{status_code};
 ghost use Rattle.sx_spec.specs.Keys.{standard_limits};
 
 pub mod examples;
@@ -112,4 +113,21 @@ pub enum Status {
     BadDump,
     Fault,
     Memory,
+}
+
+impl Status {
+    /// The number that a run's status is to the system.
+    pub fn code(self) -> u8
+        ensures { result ≡ status_code self }
+    {
+        match self {
+            Status::Done => 0,
+            Status::BadInput => 1,
+            Status::Usage => 2,
+            Status::SeedsFailed => 3,
+            Status::BadDump => 4,
+            Status::Fault => 5,
+            Status::Memory => 6,
+        }
+    }
 }

@@ -1,7 +1,7 @@
 //! The lines of the file that a shelf reads.
 ghost use Rattle.std.specs.Prelude.{◌≡◌, ◌+◌, ◌-◌, ◌^◌, ◌<◌, ◌≤◌, ℕ, [], None, Some, true, false, Ok, Err, IfOk, IfSome, OnErr, OnOk, MatchResult, length, take};
 ghost use Rattle.std.specs.Io.KnownBytes.{Keeps};
-ghost use Rattle.sx_spec.specs.Causes.{HasCause, Rose};
+ghost use Rattle.sx_spec.specs.Causes.{HasCause, Rose, StaysUnless};
 ghost use Rattle.sx_spec.specs.World.{KeepsFiles};
 ghost use Rattle.sx_edge.specs.Places.{TakesBehind};
 ghost use Rattle.sx_edge.specs.Shelf.{reading};
@@ -11,7 +11,7 @@ use crate::shelf::Shelf;
 use crate::source::Failed;
 
 impl LineReader {
-    ghost use Rattle.sx_edge.specs.Reading.{is_ready, ReadsNothing, Takes, GivesLine, GivesEnd, FailsRead, IsTooLong, SameBut, Fills, Waits};
+    ghost use Rattle.sx_edge.specs.Reading.{is_ready, read_failed, ReadsNothing, Takes, GivesLine, GivesEnd, FailsRead, IsTooLong, SameBut, Fills, Waits};
     ghost use Rattle.sx_edge.specs.declared.line.LineFault.TheVariants.{TooLong, ReadFault};
 
     /// As `next`, on the file being read, whose shelf counts the faults.
@@ -30,7 +30,7 @@ impl LineReader {
         ensures ready { is_ready self.old ≡ true → ReadsNothing (F.rest files.old) (F.rest files.new) (F.faults files.old) (F.faults files.new) }
         ensures same { self.new.max ≡ self.old.max }
         ensures number { self.new.number ≤ self.old.number + 1 }
-        ensures later { F.faults files.old ≤ F.faults files.new }
+        ensures counts { StaysUnless (read_failed result) (F.faults files.old) (F.faults files.new) }
         ensures stays { F.in_use files.new ≡ reading }
         ensures files { KeepsFiles (F.files files.old) (F.files files.new) }
     {

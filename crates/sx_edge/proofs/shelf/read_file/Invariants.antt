@@ -11,7 +11,7 @@ invariant-pieces g l = record {
   taken : Consumes (g.F.Shelf.rest l.initial.files) (g.F.Shelf.rest l.files) l.bytes.items;
   stays : g.F.Shelf.in_use l.files ≡ reading;
   kept : KeepsFiles (g.F.Shelf.files l.initial.files) (g.F.Shelf.files l.files);
-  later : g.F.Shelf.faults l.initial.files ≤ g.F.Shelf.faults l.files;
+  calm : g.F.Shelf.faults l.files ≡ g.F.Shelf.faults l.initial.files;
 }
 
 abbrev pub decreases-pieces : goal.decreases-pieces

@@ -1,4 +1,4 @@
-use Rattle.std.proofs.Common.{arith, ◌∙◌}
+use Rattle.std.proofs.Common.{◌∙◌}
 use Rattle.sx_edge.proofs.Writing.{wrote_file_more}
 use Rattle.sx_edge.proofs.shelf.write_file.Goals as goal
 
@@ -7,5 +7,5 @@ loop-rest-preserved g c = record {
   wrote = wrote_file_more _ c.in-Ok.count c.loop-rest.invariant.wrote (rw c.loop-rest.invariant.same at c.in-Ok.ensures.bytes);
   stays = c.in-Ok.ensures.stays;
   same = c.in-Ok.ensures.same ∙ c.loop-rest.invariant.same;
-  later = omega (arith, c.loop-rest.invariant.later, c.in-Ok.ensures.cause.later);
+  calm = c.in-Ok.ensures.cause.calm ∙ c.loop-rest.invariant.calm;
 }

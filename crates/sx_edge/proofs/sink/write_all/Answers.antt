@@ -1,9 +1,9 @@
-use Rattle.std.proofs.Common.{arith}
+use Rattle.std.proofs.Common.{◌∙◌}
 use Rattle.sx_edge.proofs.Writing.{wrote_more}
 use Rattle.sx_edge.proofs.sink.write_all.Goals as goal
 
 pub loop-rest-preserved : goal.loop-rest-preserved
 loop-rest-preserved g c = record {
   wrote = wrote_more _ c.in-Ok.count c.loop-rest.invariant.wrote c.in-Ok.ensures.bytes;
-  later = omega (arith, c.loop-rest.invariant.later, c.in-Ok.ensures.cause.later);
+  calm = c.in-Ok.ensures.cause.calm ∙ c.loop-rest.invariant.calm;
 }

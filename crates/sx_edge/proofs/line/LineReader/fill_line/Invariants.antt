@@ -8,7 +8,7 @@ invariant-reads g l = record {
   same : SameBut l.initial.self l.self;
   none : l.initial.self.fault ≡ None;
   ready : is_ready l.initial.self ≡ true → (l.self ≡ l.initial.self) × ReadsNothing (g.S.Source.left l.initial.src) (g.S.Source.left l.src) (g.S.Source.faults l.initial.src) (g.S.Source.faults l.src);
-  later : g.S.Source.faults l.initial.src ≤ g.S.Source.faults l.src;
+  calm : g.S.Source.faults l.src ≡ g.S.Source.faults l.initial.src;
 }
 
 abbrev pub decreases-reads : goal.decreases-reads

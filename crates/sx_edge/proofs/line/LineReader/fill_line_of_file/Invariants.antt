@@ -10,7 +10,7 @@ invariant-reads g l = record {
   same : SameBut l.initial.self l.self;
   none : l.initial.self.fault ≡ None;
   ready : is_ready l.initial.self ≡ true → (l.self ≡ l.initial.self) × ReadsNothing (g.F.Shelf.rest l.initial.files) (g.F.Shelf.rest l.files) (g.F.Shelf.faults l.initial.files) (g.F.Shelf.faults l.files);
-  later : g.F.Shelf.faults l.initial.files ≤ g.F.Shelf.faults l.files;
+  calm : g.F.Shelf.faults l.files ≡ g.F.Shelf.faults l.initial.files;
   stays : g.F.Shelf.in_use l.files ≡ reading;
   files : KeepsFiles (g.F.Shelf.files l.initial.files) (g.F.Shelf.files l.files);
 }
