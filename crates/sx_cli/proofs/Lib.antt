@@ -1,3 +1,4 @@
+pub mod Counts
 pub mod Decided
 pub mod Promises
 pub mod Endings

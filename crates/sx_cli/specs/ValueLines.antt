@@ -1,5 +1,5 @@
 -- What reading a values file comes to.
-use Rattle.std.specs.Prelude.{◌≡◌, ⊤, ℕ, ◌<◌, ◌≤◌, List, [], ◌∷◌, ◌++◌, length, filter_map, Option, Some, None, IfSome, IsSomeAnd, codes, decimal}
+use Rattle.std.specs.Prelude.{◌≡◌, ⊤, ℕ, ◌<◌, ◌≤◌, Bool, true, false, Result, Err, List, [], ◌∷◌, ◌++◌, length, filter_map, Option, Some, None, IfSome, IsSomeAnd, codes, decimal}
 use Rattle.std.specs.List.{concat, enumerate_from}
 use Rattle.sx_spec.specs.Causes.{Rose}
 use Rattle.sx_spec.specs.Command.{Text}
@@ -21,6 +21,11 @@ values_fault_of NoSuchFile = no_such_file
 values_fault_of (NotANumber line) = not_a_number line
 values_fault_of (MoreThanKeys line) = more_than_keys line
 values_fault_of (FewerThanKeys values) = fewer_than_keys values
+
+-- whether no values were read since the shelf has failed
+abbrev pub values_failed : {T : Type 0} → Result T ValuesStop → Bool
+values_failed (Err Failed) = true
+values_failed _ = false
 
 -- what is told of so many values for so many keys
 abbrev pub counts_text : ℕ → ℕ → Text

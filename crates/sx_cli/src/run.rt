@@ -2,6 +2,7 @@
 ghost use Rattle.std.specs.Prelude.{◌≡◌, ◌-◌, ◌≤◌, ◌⊎◌};
 ghost use Rattle.sx_edge.specs.Shelf.{idle};
 ghost use Rattle.sx_spec.specs.declared.Status.TheVariants.{Memory, Usage};
+ghost use Rattle.sx_spec.specs.Causes.{StaysUnless, is_fault};
 ghost use Rattle.sx_spec.specs.Messages.{memory_text, usage_text};
 ghost use Rattle.sx_spec.specs.Run.{Promise};
 ghost use Rattle.sx_spec.specs.World.{world};
@@ -28,7 +29,7 @@ use sx_words::{Task, read_words};
 fn refuse_words<E: Sink>(alloc: Global, err: &mut E, rule: Rule) -> Status
     ensures told { Tells (usage_text rule) Usage (E.written err.old) (E.written err.new) (E.faults err.old) (E.faults err.new) result
         ⊎ Tells memory_text Memory (E.written err.old) (E.written err.new) (E.faults err.old) (E.faults err.new) result }
-    ensures later { E.faults err.old ≤ E.faults err.new }
+    ensures counts { StaysUnless (is_fault result) (E.faults err.old) (E.faults err.new) }
 {
     match usage_message(alloc, rule) {
         Ok(text) => tell(err, &text, Status::Usage),
