@@ -9,8 +9,6 @@ pub mod Advances
 pub mod Readings
 pub mod Shelves
 pub mod GivenBuilds
-pub mod Texts
-pub mod FailureLines
 pub mod Tries
 pub mod ValueFaults
 pub mod ValueReadings

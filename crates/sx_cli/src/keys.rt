@@ -4,7 +4,7 @@ ghost use Rattle.sx_spec.specs.Causes.{StaysUnless};
 ghost use Rattle.sx_spec.specs.Keys.{refusal};
 ghost use Rattle.sx_cli.specs.KeyReading.{keys_failed, ReadsKeys, StopsKeys, StopsPush, StopsFault};
 
-use crate::messages::KeyReason;
+use sx_text::messages::KeyReason;
 use std::alloc::Global;
 use sx_bits::{KeyFault, KeyList, Limits};
 use sx_edge::line::{LineFault, LineReader, Step};

@@ -11,7 +11,7 @@ ghost use Rattle.sx_cli.specs.Opening.{ends_in_fault, IsDecoded, IsFound, IsFile
 ghost use Rattle.sx_cli.specs.Telling.{Tells};
 
 use crate::dump_file::DumpFile;
-use crate::messages::{check_message, no_dump_message};
+use sx_text::messages::{check_message, no_dump_message};
 use crate::telling::{Place, fail, tell, tell_memory};
 use std::alloc::Global;
 use sx_dump::{Dump, OpenFault, open_dump, words_of};

@@ -11,7 +11,7 @@ ghost use Rattle.sx_spec_program.specs.Program.{func_offer, func_program};
 ghost use Rattle.sx_cli.specs.Telling.{Tells};
 
 use crate::build::build;
-use crate::messages::usage_message;
+use sx_text::messages::usage_message;
 use crate::query::query;
 use crate::show::{Wanted, show};
 use crate::telling::{tell, tell_memory};

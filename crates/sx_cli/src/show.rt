@@ -10,7 +10,7 @@ ghost use Rattle.sx_spec_program.specs.Program.{func_program};
 ghost use Rattle.sx_dump.specs.Opening.{dump_in};
 ghost use Rattle.sx_cli.specs.Showing.{Shows, wanted_task};
 
-use crate::messages::opened_text;
+use sx_text::messages::opened_text;
 use crate::open::{check_dump, find_dump};
 use crate::telling::{Place, fail, tell_memory};
 use std::alloc::Global;

@@ -1,9 +1,9 @@
 use Rattle.std.proofs.Common.{◌≡◌, ℕ, ◌∷◌, [], refl, codes, decimal}
 use Rattle.sx_spec.specs.Messages.{message, key_text}
-use Rattle.sx_cli.specs.declared.messages.KeyReason.{KeyReason}
-use Rattle.sx_cli.specs.declared.messages.KeyReason.TheVariants.{TooLong, ZeroByte, Doubled, Unordered, TooManyKeys, TooManyBytes}
-use Rattle.sx_cli.specs.KeyLines.{fault_of, told_of}
-use Rattle.sx_cli.proofs.messages.key_message.Goals as goal
+use Rattle.sx_text.specs.declared.messages.KeyReason.{KeyReason}
+use Rattle.sx_text.specs.declared.messages.KeyReason.TheVariants.{TooLong, ZeroByte, Doubled, Unordered, TooManyKeys, TooManyBytes}
+use Rattle.sx_text.specs.Reasons.{fault_of, told_of}
+use Rattle.sx_text.proofs.messages.key_message.Goals as goal
 
 told_whole : (line : ℕ) (reason : KeyReason) → message (codes "line " ∷ decimal line ∷ told_of reason ∷ []) ≡ key_text (fault_of line reason)
 told_whole line TooLong = refl

@@ -1,5 +1,5 @@
-use Rattle.sx_cli.proofs.Texts.{counts_put}
-use Rattle.sx_cli.proofs.messages.push_counts.Goals as goal
+use Rattle.sx_text.proofs.Texts.{counts_put}
+use Rattle.sx_text.proofs.messages.push_counts.Goals as goal
 
 pub returns : goal.returns
 returns c = counts_put c.extend_from_slice-3.result _ _ _ _ _ _ c.args.values c.from.result c.args.keys

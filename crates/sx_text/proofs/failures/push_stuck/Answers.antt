@@ -1,6 +1,6 @@
 use Rattle.std.proofs.Common.{arith}
-use Rattle.sx_cli.proofs.FailureLines.{tries_step}
-use Rattle.sx_cli.proofs.failures.push_stuck.Goals as goal
+use Rattle.sx_text.proofs.FailureLines.{tries_step}
+use Rattle.sx_text.proofs.failures.push_stuck.Goals as goal
 
 pub tries-preserved : goal.tries-preserved
 tries-preserved c =

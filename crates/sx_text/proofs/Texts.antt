@@ -10,7 +10,7 @@ use Rattle.sx_spec.specs.Command.{Text, option_word}
 use Rattle.sx_spec.specs.Kinds.{kind_word}
 use Rattle.sx_spec.specs.Messages.{message, usage_text, values_text}
 use Rattle.sx_spec.specs.Values.{fewer_than_keys}
-use Rattle.sx_cli.specs.ValueLines.{counts_text}
+use Rattle.sx_text.specs.Reasons.{counts_text}
 
 pub five : (c1 a c2 b c3 end : Text) → concat (c1 ∷ a ∷ c2 ∷ b ∷ c3 ∷ end ∷ []) ≡ c1 ++ (a ++ (c2 ++ (b ++ (c3 ++ end))))
 five c1 a c2 b c3 end = ap (λ (l : Text). c1 ++ (a ++ (c2 ++ (b ++ (c3 ++ l))))) (append-nil end)

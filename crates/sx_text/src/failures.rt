@@ -4,7 +4,7 @@ ghost use Rattle.sx_spec.specs.Messages.{failure_text, spaced, witness_word};
 ghost use Rattle.sx_spec.specs.Kinds.{part_names};
 ghost use Rattle.sx_static.specs.Answer.{witness_numbers};
 ghost use Rattle.sx_dump.specs.Assembling.{failure_of};
-ghost use Rattle.sx_cli.specs.FailureTexts.{front_text, pair_text, try_text, tries_text, twins_text, witness_text};
+ghost use Rattle.sx_text.specs.FailureTexts.{front_text, pair_text, try_text, tries_text, twins_text, witness_text};
 
 use crate::messages::push_number;
 use std::alloc::AllocError;

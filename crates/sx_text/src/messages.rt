@@ -1,13 +1,12 @@
-//! The texts on standard output and on standard error.
+//! The texts of one line on standard output and on standard error.
 ghost use Rattle.std.specs.Prelude.{◌≡◌, ◌++◌, ◌∷◌, [], IfOk, OnOk, codes, decimal};
 ghost use Rattle.sx_spec.specs.Command.{option_word};
 ghost use Rattle.sx_spec.specs.Keys.{KeyFault};
 ghost use Rattle.sx_spec.specs.Kinds.{kind_word};
 ghost use Rattle.sx_spec.specs.Messages.{message, usage_text, key_text, values_text, check_text, no_dump_text};
-ghost use Rattle.sx_cli.specs.KeyLines.{fault_of, told_of};
-ghost use Rattle.sx_cli.specs.ValueLines.{counts_text, values_fault_of};
+ghost use Rattle.sx_text.specs.Reasons.{fault_of, told_of};
+ghost use Rattle.sx_text.specs.Reasons.{counts_text, values_fault_of};
 
-use crate::values::ValuesFault;
 use itoa::Buffer;
 use std::alloc::{AllocError, Global};
 use sx_spec::{Kind, OptionName, Rule};
@@ -21,6 +20,19 @@ pub enum KeyReason {
     Unordered,
     TooManyKeys,
     TooManyBytes,
+}
+
+/// What is wrong with a values file.
+#[derive(Clone, Copy, Debug, PartialEq, Eq)]
+pub enum ValuesFault {
+    /// No file has the name.
+    NoSuchFile,
+    /// The line of this number, counted from 1, is no number of 64 bits.
+    NotANumber { line: u64 },
+    /// The line of this number is one more than there are keys.
+    MoreThanKeys { line: u64 },
+    /// There are only so many values.
+    FewerThanKeys { values: u64 },
 }
 
 /// Puts a number at the end, in decimal.

@@ -1,5 +1,5 @@
-use Rattle.sx_cli.proofs.FailureLines.{stuck_failure, on_ok}
-use Rattle.sx_cli.proofs.failures.push_failure.Goals as goal
+use Rattle.sx_text.proofs.FailureLines.{stuck_failure, on_ok}
+use Rattle.sx_text.proofs.failures.push_failure.Goals as goal
 
 pub returns-in-Stuck : goal.returns-in-Stuck
 returns-in-Stuck c = on_ok c.push_stuck.result _ _ _ _

@@ -17,8 +17,8 @@ use Rattle.sx_dump.specs.Assembling.{failure_of, cause_of}
 use Rattle.sx_dump.specs.declared.assembling.PartFault.{PartFault}
 use Rattle.sx_dump.specs.declared.assembling.PartCause.{PartCause}
 use Rattle.sx_dump.specs.declared.assembling.PartCause.TheVariants.{Stuck}
-use Rattle.sx_cli.proofs.Texts.{five, behind_five}
-use Rattle.sx_cli.specs.FailureTexts.{place_of_part, front_text, witness_text, tries_text, twins_text}
+use Rattle.sx_text.proofs.Texts.{five, behind_five}
+use Rattle.sx_text.specs.FailureTexts.{place_of_part, front_text, witness_text, tries_text, twins_text}
 
 -- the line of two strings, as the message has it
 pub twins_message : (method : Method) (seed first second : ℕ) (part : Text) → twins_text seed part first second ≡ cause_text method (place_of_part seed part) (twins first second)
