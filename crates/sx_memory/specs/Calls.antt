@@ -18,3 +18,7 @@ failed_more calls = record calls { faults = counted calls.faults }
 -- one more call, which fails where it is to fail
 abbrev pub called : Calls → Calls
 called calls = record calls { made = counted calls.made; faults = if is_due calls then counted calls.faults else calls.faults }
+
+-- one more call, which fails, whether it was to fail or not
+abbrev pub refused : Calls → Calls
+refused calls = record calls { made = counted calls.made; faults = counted calls.faults }

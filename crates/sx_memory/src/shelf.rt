@@ -4,7 +4,7 @@ ghost use Rattle.std.specs.Io.{ReadsAtMost};
 ghost use Rattle.std.specs.Io.KnownBytes.{ReadConsumes};
 ghost use Rattle.sx_spec.specs.Causes.{HasCause};
 ghost use Rattle.sx_spec.specs.World.{KeepsFiles, SetsFile};
-ghost use Rattle.sx_memory.specs.Calls.{called, is_due};
+ghost use Rattle.sx_memory.specs.Calls.{called, refused, is_due};
 ghost use Rattle.sx_edge.specs.Shelf.{idle, reading, writing, Opens, IsAbsent, AppendsFile};
 ghost use Rattle.sx_memory.specs.Entries.{files_of, room_of};
 ghost use Rattle.sx_memory.specs.InUse.{is_placed, use_of, rest_of, name_of, room_left};
@@ -162,8 +162,9 @@ impl Shelf for MemShelf {
         ensures cause { HasCause self.old.calls.faults self.new.calls.faults result }
         ensures exact { is_err result ≡ (is_due self.old.calls || not (is_some (room_of self.old.entries.items name.now))) }
         ensures room { (other : List ℕ) → room_of self.new.entries.items other ≡ room_of self.old.entries.items other }
-        ensures calls { self.new.calls.made ≡ (called self.old.calls).made }
-        ensures fails { self.new.calls.fails ≡ self.old.calls.fails }
+        ensures calls { OnOk result (self.new.calls ≡ called self.old.calls) }
+        ensures refused { OnErr result (self.new.calls ≡ refused self.old.calls) }
+        ensures kept { OnErr result (self.new.entries ≡ self.old.entries) }
     {
         self.calls.make()?;
         match clear_named(&mut self.entries, name.as_bytes()) {
@@ -187,8 +188,8 @@ impl Shelf for MemShelf {
         ensures cause { HasCause self.old.calls.faults self.new.calls.faults result }
         ensures exact { is_err result ≡ (is_due self.old.calls || room_left self.old.used self.old.entries.items == 0) }
         ensures room { (other : List ℕ) → room_of self.new.entries.items other ≡ room_of self.old.entries.items other }
-        ensures calls { self.new.calls.made ≡ (called self.old.calls).made }
-        ensures fails { self.new.calls.fails ≡ self.old.calls.fails }
+        ensures calls { OnOk result (self.new.calls ≡ called self.old.calls) }
+        ensures refused { OnErr result (self.new.calls ≡ refused self.old.calls) }
     {
         self.calls.make()?;
         match self.used {

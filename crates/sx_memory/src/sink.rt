@@ -2,7 +2,7 @@
 ghost use Rattle.std.specs.Prelude.{◌≡◌, ◌<◌, ◌≤◌, ◌+◌, ◌-◌, ◌++◌, ◌||◌, ◌==◌, [], Some, length, take, min, IfOk, OnOk, OnErr, is_err};
 ghost use Rattle.std.specs.Io.KnownBytes.{Appends, Keeps};
 ghost use Rattle.sx_spec.specs.Causes.{HasCause};
-ghost use Rattle.sx_memory.specs.Calls.{called, is_due};
+ghost use Rattle.sx_memory.specs.Calls.{called, refused, is_due};
 
 use crate::calls::Calls;
 use crate::copies::put_behind;
@@ -79,8 +79,8 @@ impl Sink for MemSink {
         ensures cause { HasCause self.old.calls.faults self.new.calls.faults result }
         ensures count { IfOk result (λ count. count ≡ min (min (length buf.now) self.old.piece) (length self.old.slots.items - self.old.len)) }
         ensures exact { is_err result ≡ (is_due self.old.calls || self.old.len == length self.old.slots.items) }
-        ensures made { self.new.calls.made ≡ (called self.old.calls).made }
-        ensures fails { self.new.calls.fails ≡ self.old.calls.fails }
+        ensures calls { OnOk result (self.new.calls ≡ called self.old.calls) }
+        ensures refused { OnErr result (self.new.calls ≡ refused self.old.calls) }
         ensures room { length self.new.slots.items ≡ length self.old.slots.items }
         ensures piece { self.new.piece ≡ self.old.piece }
     {
