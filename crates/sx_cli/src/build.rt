@@ -17,10 +17,10 @@ ghost use Rattle.sx_text.specs.Reasons.{values_fault_of};
 
 use crate::dump::write_dump;
 use crate::keys::{KeysStop, read_keys};
-use sx_text::messages::{KeyReason, key_message, values_message};
+use sx_text::messages::{KeyReason, ValuesFault, key_message, values_message};
 use crate::seeds::{Tried, try_seeds};
 use crate::telling::{Place, fail, tell, tell_memory};
-use crate::values::{ValuesFault, ValuesStop, ranks, read_values};
+use crate::values::{ValuesStop, ranks, read_values};
 use std::alloc::Global;
 use sx_bits::KeyList;
 use sx_edge::shelf::Shelf;
