@@ -17,7 +17,6 @@ ghost use Rattle.sx_text.specs.Reasons.{values_fault_of};
 
 use crate::dump::write_dump;
 use crate::keys::{KeysStop, read_keys};
-use sx_text::messages::{KeyReason, ValuesFault, key_message, values_message};
 use crate::seeds::{Tried, try_seeds};
 use crate::telling::{Place, fail, tell, tell_memory};
 use crate::values::{ValuesStop, ranks, read_values};
@@ -27,6 +26,7 @@ use sx_edge::shelf::Shelf;
 use sx_edge::sink::{Sink, write_all};
 use sx_edge::source::Source;
 use sx_spec::Status;
+use sx_text::messages::{KeyReason, ValuesFault, key_message, values_message};
 use sx_words::BuildTask;
 
 /// Tells why a line is no key.

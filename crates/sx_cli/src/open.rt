@@ -11,7 +11,6 @@ ghost use Rattle.sx_cli.specs.Opening.{ends_in_fault, IsDecoded, IsFound, IsFile
 ghost use Rattle.sx_cli.specs.Telling.{Tells};
 
 use crate::dump_file::DumpFile;
-use sx_text::messages::{check_message, no_dump_message};
 use crate::telling::{Place, fail, tell, tell_memory};
 use std::alloc::Global;
 use sx_dump::{Dump, OpenFault, open_dump, words_of};
@@ -19,6 +18,7 @@ use sx_edge::shelf::{ReadFault, Shelf, read_file};
 use sx_edge::sink::Sink;
 use sx_fields::bank::Words;
 use sx_spec::Status;
+use sx_text::messages::{check_message, no_dump_message};
 
 /// How many bytes a dump has at most.
 const MAX_BYTES: u64 = 1_073_741_824;

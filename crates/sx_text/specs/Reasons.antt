@@ -41,4 +41,3 @@ values_fault_of (FewerThanKeys values) = fewer_than_keys values
 -- what is told of so many values for so many keys
 abbrev pub counts_text : ℕ → ℕ → Text
 counts_text values keys = concat (codes "values: " ∷ decimal values ∷ codes " values for " ∷ decimal keys ∷ codes " keys" ∷ (10 ∷ []) ∷ [])
-
