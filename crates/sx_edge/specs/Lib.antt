@@ -3,3 +3,4 @@ pub mod Shelf
 pub mod Reading
 pub mod Places
 pub mod Buffer
+pub mod Kept
