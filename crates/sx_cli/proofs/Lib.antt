@@ -18,3 +18,4 @@ pub mod Serves
 pub mod Opens
 pub mod Shows
 pub mod Refusals
+pub mod FileReadings

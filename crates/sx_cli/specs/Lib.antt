@@ -1,3 +1,4 @@
+pub mod FileWords
 pub mod Building
 pub mod KeyLines
 pub mod KeyReading

@@ -4,6 +4,7 @@
 mod build;
 mod dump;
 mod dump_file;
+mod file_words;
 mod keys;
 mod open;
 mod query;

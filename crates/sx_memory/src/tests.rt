@@ -11,7 +11,7 @@ use std::alloc::Global;
 use std::process::Abort;
 use std::test::Fail;
 use sx_edge::line::{LineFault, LineReader, Step};
-use sx_edge::shelf::{ReadFault, Shelf, read_file, write_file};
+use sx_edge::shelf::{Shelf, fill_buffer, write_file};
 use sx_edge::sink::{Sink, write_all};
 use sx_edge::source::{Failed, Source};
 
@@ -159,17 +159,16 @@ fn write_named(files: &mut MemShelf, name: &str, bytes: &[u8]) -> Result<(), Fai
     Ok(())
 }
 
-fn read_named(alloc: Global, files: &mut MemShelf, name: &str, max: u64) -> Result<Vec<u8>, Fail>
+fn read_named(files: &mut MemShelf, name: &str, buf: &mut [u8]) -> Result<usize, Fail>
     requires idle { use_of files.old.used ≡ idle }
-    requires max { max ≤ 2 ^ 30 }
     ensures { OnOk result (use_of files.new.used ≡ idle) }
 {
     if !files.open_file(name)? {
-        return Ok(Vec::new(alloc));
+        return Ok(0);
     }
-    let bytes = read_file(alloc, files, max).map_err(|_| Failed)?;
+    let count = fill_buffer(files, buf)?;
     files.close()?;
-    Ok(bytes)
+    Ok(count)
 }
 
 #[test]
@@ -179,8 +178,9 @@ fn a_file_is_written_and_read(rt: HostRuntime) -> Result<(), Fail> {
     assert_eq!(&rt; files.bytes("D"), None);
     write_named(&mut files, "D", b"abc")?;
     assert_eq!(&rt; files.bytes("D").ok_or("none")?, b"abc".as_slice());
-    let bytes = read_named(rt.alloc(), &mut files, "D", 9)?;
-    assert_eq!(&rt; bytes.as_slice(), b"abc".as_slice());
+    let mut buf = [0; 9];
+    assert_eq!(&rt; read_named(&mut files, "D", &mut buf)?, 3);
+    assert_eq!(&rt; &buf, b"abc\0\0\0\0\0\0");
     Ok(())
 }
 
@@ -188,8 +188,9 @@ fn a_file_is_written_and_read(rt: HostRuntime) -> Result<(), Fail> {
 fn a_file_is_read_up_to_a_bound(rt: HostRuntime) -> Result<(), Fail> {
     let mut files = shelf(rt.alloc(), &[])?;
     files.put("V", b"10\n7\n")?;
-    let bytes = read_named(rt.alloc(), &mut files, "V", 2)?;
-    assert_eq!(&rt; bytes.as_slice(), b"10\n".as_slice());
+    let mut buf = [0; 3];
+    assert_eq!(&rt; read_named(&mut files, "V", &mut buf)?, 3);
+    assert_eq!(&rt; &buf, b"10\n");
     assert!(&rt; !files.open_file("X")?);
     Ok(())
 }
@@ -211,10 +212,7 @@ fn calls_of_a_shelf_that_fail(rt: HostRuntime) -> Result<(), Fail> {
     files.put("D", b"abc")?;
     assert_eq!(&rt; files.open_file("D"), Err(Failed));
     assert!(&rt; files.open_file("D")?);
-    assert_eq!(&rt;
-        read_file(rt.alloc(), &mut files, 9).err(),
-        Some(ReadFault::Failed)
-    );
+    assert_eq!(&rt; fill_buffer(&mut files, &mut [0; 9]), Err(Failed));
     assert_eq!(&rt; files.calls(), 3);
     Ok(())
 }
