@@ -20,6 +20,11 @@ words_from bytes n = map (word_at bytes) (range_with_len 0 n)
 pub one_more : (bytes : List ℕ) (n : ℕ) → words_from bytes (n + 1) ≡ words_from bytes n ++ word_at bytes n ∷ []
 one_more bytes n = map-range_with_len_more (word_at bytes) 0 n n (omega arith)
 
+next_word : (bytes : List ℕ) (n : ℕ) → words_from bytes (suc n) ≡ words_from bytes n ++ word_at bytes n ∷ []
+next_word bytes n =
+    let e : suc n ≡ n + 1 = omega arith in
+    ap (words_from bytes) e ∙ one_more bytes n
+
 -- one word more behind others
 pub pushed_word : (before words new bytes : List ℕ) (i word : ℕ) → words ≡ before ++ words_from bytes i → new ≡ words ++ word ∷ [] → word ≡ word_at bytes i → new ≡ before ++ words_from bytes (i + 1)
 pushed_word before words new bytes i word so_far pushed is =
@@ -43,21 +48,20 @@ module _ (front back : List ℕ) (k : ℕ) (whole : length front ≡ 8 * k) wher
   front_words : (n : ℕ) → n ≤ k → words_from (front ++ back) n ≡ words_from front n
   front_words zero le = refl
   front_words (suc n) le =
-      let e : suc n ≡ n + 1 = omega arith in
-      rw e (one_more (front ++ back) n ∙ ap (λ (ws : List ℕ). ws ++ word_at (front ++ back) n ∷ []) (front_words n (omega arith))
-      ∙ ap (λ (w : ℕ). words_from front n ++ w ∷ []) (front_word n (omega arith)) ∙ sym (one_more front n))
+      next_word (front ++ back) n ∙ ap (λ (ws : List ℕ). ws ++ word_at (front ++ back) n ∷ []) (front_words n (omega arith))
+      ∙ ap (λ (w : ℕ). words_from front n ++ w ∷ []) (front_word n (omega arith)) ∙ sym (next_word front n)
 
   all_words : (n : ℕ) → words_from (front ++ back) (k + n) ≡ words_from front k ++ words_from back n
   all_words zero =
       let e : k + 0 ≡ k = omega arith in
-      rw e (front_words k (omega arith) ∙ sym (append-nil (words_from front k)))
+      ap (words_from (front ++ back)) e ∙ front_words k (omega arith) ∙ sym (append-nil (words_from front k))
   all_words (suc n) =
-      let e : k + suc n ≡ (k + n) + 1 = omega arith in
-      let f : suc n ≡ n + 1 = omega arith in
-      rw (e, f) (one_more (front ++ back) (k + n) ∙ ap (λ (ws : List ℕ). ws ++ word_at (front ++ back) (k + n) ∷ []) (all_words n)
+      let e : k + suc n ≡ suc (k + n) = omega arith in
+      ap (words_from (front ++ back)) e
+      ∙ next_word (front ++ back) (k + n) ∙ ap (λ (ws : List ℕ). ws ++ word_at (front ++ back) (k + n) ∷ []) (all_words n)
       ∙ ap (λ (w : ℕ). (words_from front k ++ words_from back n) ++ w ∷ []) (back_word n)
       ∙ append_assoc (words_from front k) (words_from back n) (word_at back n ∷ [])
-      ∙ ap (λ (ws : List ℕ). words_from front k ++ ws) (sym (one_more back n)))
+      ∙ ap (λ (ws : List ℕ). words_from front k ++ ws) (sym (next_word back n))
 
   -- the words of bytes are those of their front and those of what follows, where the front has whole words
   pub words_append : bytes_words (front ++ back) ≡ bytes_words front ++ bytes_words back

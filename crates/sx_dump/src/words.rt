@@ -98,7 +98,8 @@ fn word_at(bytes: &[u8], i: usize) -> u64
 ///
 /// Want of memory.
 pub fn push_words(words: &mut Vec<u64>, bytes: &[u8]) -> Result<(), AllocError>
-    ensures { OnOk result (words.new.items ≡ words.old.items ++ bytes_words bytes.now) }
+    ensures words { OnOk result (words.new.items ≡ words.old.items ++ bytes_words bytes.now) }
+    ensures small { OnOk result (All (λ w. w < 2 ^ 64) words.old.items → All (λ w. w < 2 ^ 64) words.new.items) }
 {
     for i in 0..bytes.len().div_ceil(8) {
         words.push(word_at(bytes, i))?;
