@@ -7,7 +7,8 @@ use Rattle.std.proofs.lemmas.List.{take-append-le}
 use Rattle.sx_spec.specs.Layout.{bytes_words}
 use Rattle.sx_dump.proofs.WordPieces.{words_append}
 use Rattle.sx_cli.specs.FileWords.{IsDecoded, ReadsFile, ReadsWords, TakesWords}
-use Rattle.sx_cli.proofs.Opens.{take_all}
+use Rattle.std.specs.Int.{div_ceil}
+use Rattle.sx_cli.proofs.Opens.{take_all, words_count}
 
 -- so many whole pieces were read
 pub record ReadSoFar (before now : Option (List ℕ)) (words : List ℕ) (pieces : ℕ) : Type 0 where
@@ -108,3 +109,7 @@ module _ (before now after : Option (List ℕ)) (words new : List ℕ) (pieces r
         | inl short ↦ file_ends short (omega arith)
         | inr full ↦ file_goes_on (omega arith)
       ])
+
+-- there are as many words as the bytes have
+pub words_counted : (rest : Option (List ℕ)) (words : List ℕ) (size : ℕ) → ReadsWords rest words size → length words ≡ div_ceil size 8
+words_counted rest words size r = words_count r.bytes words r.decoded.words_are ∙ ap (λ (n : ℕ). div_ceil n 8) (sym r.decoded.size_is)

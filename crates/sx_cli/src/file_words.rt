@@ -92,7 +92,8 @@ pub fn read_words<F: Shelf>(alloc: Global, files: &mut F) -> Result<DumpFile, Re
         }
     }
     // a byte behind the longest dump
-    let count = read_piece(files, &mut words, &mut piece[..1])?;
+    let mut last = [0; 1];
+    let count = read_piece(files, &mut words, &mut last)?;
     let bytes = MAX_BYTES + count as u64;
     Ok(DumpFile { words, bytes })
 }
