@@ -1,7 +1,5 @@
-use Rattle.std.proofs.Common.{◌≡◌, ◌<◌, ◌^◌, ◌+◌, ◌-◌, ◌*◌, ◌/◌, ◌%◌, suc, arith, get_or, lit<}
-use Rattle.std.specs.Prelude.{bit_xor}
+use Rattle.std.proofs.Common.{◌≡◌, ◌<◌, ◌^◌, ◌+◌, ◌-◌, ◌*◌, ◌/◌, ◌%◌, suc, arith, get_or}
 use Rattle.std.proofs.lemmas.List.Elements.{recursion_from_All, All-set}
-use Rattle.std.proofs.lemmas.Nat.{xor_lt, mod_below, shr_le}
 use Rattle.sx_spec.specs.Fields.{words_number}
 use Rattle.sx_fields.proofs.WordFields.{put_inside, put_across}
 use Rattle.sx_fields.proofs.Places.{put_nothing}
