@@ -1,6 +1,7 @@
 //! Dumps of static functions, built from keys and values.
 
 ghost use Rattle.std.specs.Prelude.{◌≡◌, ◌+◌, ◌^◌, ◌<◌, ◌≤◌, [], ◌∷◌, ◌++◌, IfOk, length, map};
+ghost use Rattle.sx_spec_strings.specs.Numbers.{binary_digits};
 ghost use Rattle.sx_spec_kinds.specs.declared.Kind.TheVariants.{Func};
 ghost use Rattle.sx_spec.specs.Fields.{packed};
 ghost use Rattle.sx_spec.specs.Layout.{magic, header_words, method_code as method_code_of};
@@ -42,6 +43,15 @@ pub enum PartCause {
     Stuck { chunk: u32, witnesses: Vec<Witness> },
 }
 
+/// How many binary digits a number has; 0 where it is 0.
+#[tactic(auto, using(crate::proofs::Signing::digits_are))]
+fn digits(number: u64) -> u32
+    ensures value { result ≡ binary_digits number }
+    ensures bound { result ≤ 64 }
+{
+    64 - number.leading_zeros()
+}
+
 /// How many bits the greatest of the values has; 0 where there is none.
 fn least_width(values: &[u64]) -> u32
     ensures value { result ≡ least_width_of values.now }
@@ -51,7 +61,7 @@ fn least_width(values: &[u64]) -> u32
     for value in values {
         greatest = greatest.max(*value);
     }
-    64 - greatest.leading_zeros()
+    digits(greatest)
 }
 
 /// The signature of each key.

@@ -1,5 +1,5 @@
 //! A field in one word, or across two.
-ghost use Rattle.std.specs.Prelude.{◌≡◌, ◌+◌, ◌-◌, ◌*◌, ◌/◌, ◌%◌, ◌<◌, ◌≤◌, ◌^◌, All, length};
+ghost use Rattle.std.specs.Prelude.{◌≡◌, ◌+◌, ◌-◌, ◌*◌, ◌/◌, ◌%◌, ◌<◌, ◌≤◌, ◌^◌, All, bit_xor, length};
 ghost use Rattle.sx_spec.specs.Fields.{words_number};
 
 /// The bits of a word from bit `shift` on, as many as `width`.
@@ -23,6 +23,25 @@ pub(crate) fn across(low: u64, high: u64, shift: u32, width: u32) -> u64
     (low >> shift | high << (64 - shift)) & u64::MAX >> (64 - width)
 }
 
+/// The word with its bits from bit `shift` on turned over where `change` has ones.
+#[inline]
+fn turn_low(low: u64, change: u64, shift: u32) -> u64
+    requires { shift < 64 }
+    ensures { result ≡ bit_xor low (change * 2 ^ shift % 2 ^ 64) }
+{
+    low ^ change << shift
+}
+
+/// The next word with its lowest bits turned over where the rest of `change` has ones.
+#[inline]
+fn turn_high(high: u64, change: u64, shift: u32) -> u64
+    requires some { 0 < shift }
+    requires shift { shift < 64 }
+    ensures { result ≡ bit_xor high (change / 2 ^ (64 - shift)) }
+{
+    high ^ change >> (64 - shift)
+}
+
 /// Makes the field of `width` bits from bit `i * width` on equal to `v`. All other bits stay.
 #[inline]
 pub(crate) fn put(words: &mut [u64], i: usize, width: u32, v: u64)
@@ -43,11 +62,11 @@ pub(crate) fn put(words: &mut [u64], i: usize, width: u32, v: u64)
     let shift = (at % 64) as u32;
     let low = words[word];
     if shift + width <= 64 {
-        words[word] = low ^ (inside(low, shift, width) ^ v) << shift;
+        words[word] = turn_low(low, inside(low, shift, width) ^ v, shift);
         return;
     }
     let high = words[word + 1];
     let change = across(low, high, shift, width) ^ v;
-    words[word] = low ^ change << shift;
-    words[word + 1] = high ^ change >> (64 - shift);
+    words[word] = turn_low(low, change, shift);
+    words[word + 1] = turn_high(high, change, shift);
 }

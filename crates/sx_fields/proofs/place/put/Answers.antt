@@ -1,7 +1,5 @@
-use Rattle.std.proofs.Common.{◌≡◌, ◌<◌, ◌^◌, ◌+◌, ◌-◌, ◌*◌, ◌/◌, ◌%◌, suc, arith, get_or, lit<}
-use Rattle.std.specs.Prelude.{bit_xor}
+use Rattle.std.proofs.Common.{◌≡◌, ◌<◌, ◌^◌, ◌+◌, ◌-◌, ◌*◌, ◌/◌, ◌%◌, suc, arith, get_or}
 use Rattle.std.proofs.lemmas.List.Elements.{recursion_from_All, All-set}
-use Rattle.std.proofs.lemmas.Nat.{xor_lt, mod_below, shr_le}
 use Rattle.sx_spec.specs.Fields.{words_number}
 use Rattle.sx_fields.proofs.WordFields.{put_inside, put_across}
 use Rattle.sx_fields.proofs.Places.{put_nothing}
@@ -13,31 +11,19 @@ returns-then-width-eq0-clause-change c =
 
 pub returns-then-shift-width-le64-clause-small : goal.returns-then-shift-width-le64-clause-small
 returns-then-shift-width-le64-clause-small c =
-    let at = c.args.i * c.args.width in
-    let words = c.args.words.now in
-    let low : get_or words (at / 64) 0 < 2 ^ 64 = c.requires.small (at / 64) 0 (omega arith) in
-    let change = bit_xor c.inside.result c.args.v * 2 ^ (at % 64) in
-    All-set (λ w. w < 2 ^ 64) words (at / 64) _ (xor_lt 64 (get_or words (at / 64) 0) (change % 2 ^ 64) low (mod_below change (2 ^ 64) (lit< tt))) c.requires.small
+    All-set (λ w. w < 2 ^ 64) c.args.words.now (c.args.i * c.args.width / 64) _ c.turn_low.type_inv c.requires.small
 
 pub returns-then-shift-width-le64-clause-change : goal.returns-then-shift-width-le64-clause-change
 returns-then-shift-width-le64-clause-change c =
     let at = c.args.i * c.args.width in
     let words = c.args.words.now in
     let is = c.inside.ensures in
-    rw is (put_inside words c.args.width (at / 64) (at % 64) at c.args.v (recursion_from_All (λ w. w < 2 ^ 64) words c.requires.small) (omega arith) (omega arith) c.requires.fits (omega arith))
+    rw (c.turn_low.ensures, is) (put_inside words c.args.width (at / 64) (at % 64) at c.args.v (recursion_from_All (λ w. w < 2 ^ 64) words c.requires.small) (omega arith) (omega arith) c.requires.fits (omega arith))
 
 pub returns-clause-small : goal.returns-clause-small
 returns-clause-small c =
     let at = c.args.i * c.args.width in
-    let words = c.args.words.now in
-    let low : get_or words (at / 64) 0 < 2 ^ 64 = c.requires.small (at / 64) 0 (omega arith) in
-    let high : get_or words (at / 64 + 1) 0 < 2 ^ 64 = c.requires.small (at / 64 + 1) 0 (omega arith) in
-    let x = bit_xor c.across.result c.args.v in
-    let change = x * 2 ^ (at % 64) in
-    let narrow : x < 2 ^ 64 = xor_lt 64 c.across.result c.args.v c.across.type_inv (omega arith) in
-    let down : x / 2 ^ (64 - at % 64) < 2 ^ 64 = let le = shr_le x (64 - at % 64) in omega arith in
-    All-set (λ w. w < 2 ^ 64) _ (at / 64 + 1) _ (xor_lt 64 (get_or words (at / 64 + 1) 0) (x / 2 ^ (64 - at % 64)) high down)
-    (All-set (λ w. w < 2 ^ 64) words (at / 64) _ (xor_lt 64 (get_or words (at / 64) 0) (change % 2 ^ 64) low (mod_below change (2 ^ 64) (lit< tt))) c.requires.small)
+    All-set (λ w. w < 2 ^ 64) _ (at / 64 + 1) _ c.turn_high.type_inv (All-set (λ w. w < 2 ^ 64) c.args.words.now (at / 64) _ c.turn_low-2.type_inv c.requires.small)
 
 pub returns-clause-change : goal.returns-clause-change
 returns-clause-change c =
@@ -46,4 +32,4 @@ returns-clause-change c =
     let is = c.across.ensures in
     let low : get_or words (at / 64) 0 < 2 ^ 64 = c.requires.small (at / 64) 0 (omega arith) in
     let next : at / 64 + 1 ≡ suc (at / 64) = omega arith in
-    rw (is, next) (put_across words c.args.width (at / 64) (at % 64) (64 - at % 64) at c.args.v (recursion_from_All (λ w. w < 2 ^ 64) words c.requires.small) (omega arith) low (omega arith) c.requires.fits (omega arith) (omega arith) c.requires.narrow)
+    rw (c.turn_low-2.ensures, c.turn_high.ensures, is, next) (put_across words c.args.width (at / 64) (at % 64) (64 - at % 64) at c.args.v (recursion_from_All (λ w. w < 2 ^ 64) words c.requires.small) (omega arith) low (omega arith) c.requires.fits (omega arith) (omega arith) c.requires.narrow)
