@@ -5,22 +5,24 @@ use Rattle.std.specs.Io.KnownBytes.{Keeps}
 use Rattle.std.proofs.lemmas.List.FromFn.{length-range_with_len}
 use Rattle.sx_spec.specs.declared.Status.{Status}
 use Rattle.sx_spec.specs.declared.Status.TheVariants.{BadInput, Memory}
+use Rattle.sx_spec.specs.Causes.{is_fault}
 use Rattle.sx_spec.specs.Command.{Text, BuildTask, build}
 use Rattle.sx_spec.specs.Keys.{KeyFault, AreKeys, standard_limits}
 use Rattle.sx_spec.specs.Layout.{words_bytes}
 use Rattle.sx_spec.specs.Messages.{at_values, memory_text, key_text, values_text}
 use Rattle.sx_spec.specs.Outcomes.{GivesValues}
 use Rattle.sx_spec.specs.Run.{Promise}
-use Rattle.sx_spec.specs.World.{World, Files, NoCountFell, KeepsFiles, SetsFile}
+use Rattle.sx_spec.specs.World.{World, Files, CountsStay, KeepsFiles, SetsFile}
 use Rattle.sx_spec_program.specs.Program.{func_program}
 use Rattle.sx_cli.specs.Building.{RefusesLine}
 use Rattle.sx_cli.specs.Progress.{ReadsAll}
 use Rattle.sx_cli.specs.Storing.{Outside, GivenEnds, Stores}
 use Rattle.sx_cli.specs.Telling.{Tells, Fails}
-use Rattle.sx_cli.specs.ValueLines.{Given, StopsGiving, values_fault_of}
+use Rattle.sx_cli.specs.ValueLines.{Given, StopsGiving}
+use Rattle.sx_text.specs.Reasons.{values_fault_of}
 use Rattle.sx_cli.specs.Writing.{SetsPart}
 use Rattle.sx_cli.specs.declared.values.ValuesStop.TheVariants.{Refused, Failed}
-use Rattle.sx_cli.specs.declared.values.ValuesFault.{ValuesFault}
+use Rattle.sx_text.specs.declared.messages.ValuesFault.{ValuesFault}
 use Rattle.sx_cli.proofs.Builds.{key_refused, build_memory, values_failed, values_refused, seeds_fail, build_done, dump_failed, line_failed}
 use Rattle.sx_cli.proofs.Shelves.{kept_twice}
 
@@ -44,28 +46,28 @@ pub many : (values : Option Text) (keys : ℕ) (files : Option Files) (vs : List
 many None keys files vs given = ap (λ (l : List ℕ). length l) given ∙ length-range_with_len 0 keys
 many (Some name) keys files vs given = given.as_many
 
-module _ (t : BuildTask) (before after : World) (ticks : ℕ) (counts : NoCountFell before after) where
+module _ (t : BuildTask) (before after : World) (ticks : ℕ) (result : Status) (counts : CountsStay (is_fault result) before after) where
   -- either message is one that may come
-  pub refuses_key : (fault : KeyFault) → RefusesLine before.input after.input fault → (result : Status) → KeepsFiles before.files after.files → Keeps before.out after.out
+  pub refuses_key : (fault : KeyFault) → RefusesLine before.input after.input fault → KeepsFiles before.files after.files → Keeps before.out after.out
       → Tells (key_text fault) BadInput before.err after.err before.faults.err after.faults.err result ⊎ Tells memory_text Memory before.err after.err before.faults.err after.faults.err result
       → Promise func_program (build t) before after ticks result
-  refuses_key fault refuses result files out (inl told) = key_refused t before after ticks counts fault refuses result files out told
-  refuses_key fault refuses result files out (inr told) = build_memory t before after ticks counts result files out told
+  refuses_key fault refuses files out (inl told) = key_refused t before after ticks result counts fault refuses files out told
+  refuses_key fault refuses files out (inr told) = build_memory t before after ticks result counts files out told
 
   module _ (keys : List Text) (all : ReadsAll before.input after.input keys) (valid : AreKeys standard_limits keys) (files : KeepsFiles before.files after.files) (out : Keeps before.out after.out) where
     -- the values file is refused, or memory is wanting for the message
-    pub refuses_values : (values : Option Text) → t.values ≡ values → (fault : ValuesFault) (b a : ℕ) → StopsGiving values (length keys) before.files b a (Refused fault) → (result : Status)
+    pub refuses_values : (values : Option Text) → t.values ≡ values → (fault : ValuesFault) (b a : ℕ) → StopsGiving values (length keys) before.files b a (Refused fault)
         → Tells (values_text (length keys) (values_fault_of fault)) BadInput before.err after.err before.faults.err after.faults.err result ⊎ Tells memory_text Memory before.err after.err before.faults.err after.faults.err result
         → Promise func_program (build t) before after ticks result
-    refuses_values None named fault b a stops result told = absurd cc
-    refuses_values (Some name) named fault b a stops result (inl told) = values_refused t before after ticks counts keys all valid name named (values_fault_of fault) stops files out result told
-    refuses_values (Some name) named fault b a stops result (inr told) = build_memory t before after ticks counts result files out told
+    refuses_values None named fault b a stops told = absurd cc
+    refuses_values (Some name) named fault b a stops (inl told) = values_refused t before after ticks result counts keys all valid name named (values_fault_of fault) stops files out told
+    refuses_values (Some name) named fault b a stops (inr told) = build_memory t before after ticks result counts files out told
 
     -- the values file failed
-    pub fails_values : (values : Option Text) → t.values ≡ values → StopsGiving values (length keys) before.files before.faults.shelf after.faults.shelf Failed → (result : Status)
+    pub fails_values : (values : Option Text) → t.values ≡ values → StopsGiving values (length keys) before.files before.faults.shelf after.faults.shelf Failed
         → Fails at_values before.err after.err before.faults.err after.faults.err result → Promise func_program (build t) before after ticks result
-    fails_values None named stops result told = absurd cc
-    fails_values (Some name) named stops result told = values_failed t before after ticks counts keys all valid (subst IsSome (sym named) refl) stops files out result told
+    fails_values None named stops told = absurd cc
+    fails_values (Some name) named stops told = values_failed t before after ticks result counts keys all valid (subst IsSome (sym named) refl) stops files out told
 
   module _ (keys : List Text) (all : ReadsAll before.input after.input keys) (valid : AreKeys standard_limits keys) (vs : List ℕ) (given : Given t.values (length keys) before.files vs)
       (files : Option Files) (shelf_faults : ℕ) (kept : KeepsFiles before.files files) (later : before.faults.shelf ≤ shelf_faults) where
@@ -76,8 +78,8 @@ module _ (t : BuildTask) (before after : World) (ticks : ℕ) (counts : NoCountF
     new = record { files = after.files; out = after.out; err = after.err; shelf_faults = after.faults.shelf; out_faults = after.faults.out; err_faults = after.faults.err }
 
     -- what the keys and values come to is what is due
-    pub given_ends : (result : Status) → GivenEnds t keys vs old new result → Promise func_program (build t) before after ticks result
-    given_ends result (inl s) = stored s.stores
+    pub given_ends : GivenEnds t keys vs old new result → Promise func_program (build t) before after ticks result
+    given_ends (inl s) = stored s.stores
       where
         due : GivesValues t.values (length keys) before vs
         due = gives t.values (length keys) before vs given
@@ -86,12 +88,11 @@ module _ (t : BuildTask) (before after : World) (ticks : ℕ) (counts : NoCountF
         all_many = many t.values (length keys) before.files vs given
 
         stored : Stores t.dump s.words s.line old new result → Promise func_program (build t) before after ticks result
-        stored (inl w) = subst (Promise func_program (build t) before after ticks) (sym w.is)
-            (build_done t before after ticks counts keys all valid vs due all_many s.words s.line s.ready (kept_set t.dump (words_bytes s.words) before.files files after.files kept w.files) w.out w.err)
+        stored (inl w) = build_done t before after ticks result counts keys all valid vs due all_many s.words s.line s.ready (kept_set t.dump (words_bytes s.words) before.files files after.files kept w.files) w.out w.err w.is
         stored (inr (inl f)) = let cause = f.cause in
-            dump_failed t before after ticks counts keys all valid vs due all_many s.words s.line s.ready (kept_part t.dump (words_bytes s.words) before.files files after.files kept f.files) (omega (arith, cause, later)) f.out result f.told
-        stored (inr (inr l)) = line_failed t before after ticks counts keys all valid vs due all_many s.words s.line s.ready (kept_set t.dump (words_bytes s.words) before.files files after.files kept l.files) l.out l.cause result l.told
-    given_ends result (inr (inl f)) =
-        seeds_fail t before after ticks counts keys all valid vs (gives t.values (length keys) before vs given) (many t.values (length keys) before.files vs given) f.message f.fail result
+            dump_failed t before after ticks result counts keys all valid vs due all_many s.words s.line s.ready (kept_part t.dump (words_bytes s.words) before.files files after.files kept f.files) (omega (arith, cause, later)) f.out f.count f.told
+        stored (inr (inr l)) = line_failed t before after ticks result counts keys all valid vs due all_many s.words s.line s.ready (kept_set t.dump (words_bytes s.words) before.files files after.files kept l.files) l.out l.cause l.told
+    given_ends (inr (inl f)) =
+        seeds_fail t before after ticks result counts keys all valid vs (gives t.values (length keys) before vs given) (many t.values (length keys) before.files vs given) f.message f.fail
         (subst (KeepsFiles before.files) (sym f.unstored.files) kept) f.unstored.out f.unstored.told
-    given_ends result (inr (inr u)) = build_memory t before after ticks counts result (subst (KeepsFiles before.files) (sym u.files) kept) u.out u.told
+    given_ends (inr (inr u)) = build_memory t before after ticks result counts (subst (KeepsFiles before.files) (sym u.files) kept) u.out u.told

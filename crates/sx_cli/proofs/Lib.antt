@@ -1,3 +1,4 @@
+pub mod Counts
 pub mod Decided
 pub mod Promises
 pub mod Endings
@@ -8,8 +9,6 @@ pub mod Advances
 pub mod Readings
 pub mod Shelves
 pub mod GivenBuilds
-pub mod Texts
-pub mod FailureLines
 pub mod Tries
 pub mod ValueFaults
 pub mod ValueReadings

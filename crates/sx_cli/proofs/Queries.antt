@@ -12,6 +12,7 @@ use Rattle.sx_spec_strings.specs.Bits.{IsPrefix}
 use Rattle.sx_spec_strings.specs.First.{first, first_holding}
 use Rattle.sx_spec_strings.specs.Lines.{lines, complete_lines}
 use Rattle.sx_spec.specs.declared.Limits.{Limits}
+use Rattle.sx_spec.specs.Causes.{is_fault}
 use Rattle.sx_spec.specs.Command.{Text}
 use Rattle.sx_spec.specs.Layout.{Dump}
 use Rattle.sx_spec.specs.Messages.{long_query_text, many_queries_text}
@@ -24,7 +25,7 @@ use Rattle.sx_spec.specs.Keys.{standard_limits}
 use Rattle.sx_spec.specs.Messages.{Place, at_input, at_dump, at_output, at_error, memory_text}
 use Rattle.sx_spec.specs.Outcomes.{IsDue, IsStored, InputHas, dump_refusal}
 use Rattle.sx_spec.specs.Run.{Promise, ReadsWithin, QueryAfterFault, BeginsDue, taken_lines}
-use Rattle.sx_spec.specs.World.{World, Outcome, NoCountFell, CountRose, KeepsFiles, untouched, partly, to_end, the_shelf, the_input, the_out}
+use Rattle.sx_spec.specs.World.{World, Outcome, CountsStay, CountRose, KeepsFiles, KeepsInput, untouched, partly, to_end, the_shelf, the_input, the_out}
 use Rattle.sx_spec_program.specs.Program.{func_program}
 use Rattle.sx_cli.specs.Progress.{Begins, BreaksBehind, ReadsAll, FailsBehind, StopsAt}
 use Rattle.sx_cli.specs.Served.{AreQueries, Answers}
@@ -84,12 +85,12 @@ reads_more d ls rest = let e = sum_by-append (reads d) ls rest in omega arith
 
 -- ---- the ends of `query`
 
-module _ (name : Text) (before after : World) (ticks : ℕ) (counts : NoCountFell before after) where
+module _ (name : Text) (before after : World) (ticks : ℕ) (result : Status) (counts : CountsStay (is_fault result) before after) where
   abbrev task : Task
   task = query name
 
   -- nothing was asked
-  unasked : Keeps before.input after.input → Keeps before.out after.out → (other : Text) → task ≡ query other → QueryAfterFault func_program other before after at_error
+  unasked : KeepsInput before after → Keeps before.out after.out → (other : Text) → task ≡ query other → QueryAfterFault func_program other before after at_error
   unasked input out other same = record {
     input_failed = λ _ _ _. inr (refl, record { input = input; out = out });
     message_failed = λ _. inl out;
@@ -97,27 +98,27 @@ module _ (name : Text) (before after : World) (ticks : ℕ) (counts : NoCountFel
 
   -- a call on the shelf failed
   pub file_failed : ticks ≡ 0 → CountRose before after the_shelf → KeepsFiles before.files after.files → Keeps before.out after.out
-      → (result : Status) → Fails at_dump before.err after.err before.faults.err after.faults.err result → Promise func_program task before after ticks result
-  file_failed none rose files out result told = by_failure task before after ticks at_dump result told rose tt
+      → Fails at_dump before.err after.err before.faults.err after.faults.err result → Promise func_program task before after ticks result
+  file_failed none rose files out told = by_failure task before after ticks at_dump result told rose tt
       [] (kept_appends before.out after.out out) (inl refl) (inl files)
       (λ only. absurd (only.alone the_shelf (λ same. absurd cc) rose))
       (λ other same. record { input_failed = λ _ _ no. absurd (no rose); message_failed = λ only. absurd (only.alone the_shelf (λ e. absurd cc) rose) })
       (inl none) tt counts
 
   -- there is no such dump
-  pub dump_refused : ticks ≡ 0 → (reason : Text) → IfSome before.files (λ files. dump_refusal func_program (files name) ≡ Some reason) → (result : Status)
-      → KeepsFiles before.files after.files → Keeps before.input after.input → Keeps before.out after.out → Tells reason BadDump before.err after.err before.faults.err after.faults.err result
+  pub dump_refused : ticks ≡ 0 → (reason : Text) → IfSome before.files (λ files. dump_refusal func_program (files name) ≡ Some reason)
+      → KeepsFiles before.files after.files → KeepsInput before after → Keeps before.out after.out → Tells reason BadDump before.err after.err before.faults.err after.faults.err result
       → Promise func_program task before after ticks result
-  dump_refused none reason refused result files input out told = by_message task before after ticks
+  dump_refused none reason refused files input out told = by_message task before after ticks
       (record { status = BadDump; reading = untouched; out = []; err = reason; file = None })
       (inr (inr (record { reason = reason; first_reason = refused; is = refl })))
       reason refl BadDump result refl (λ e. absurd cc) (λ e. absurd cc) refl
-      files input (kept_appends before.out after.out out) told (unasked input out) (inl none) (inl none) tt counts
+      files input.bytes (kept_appends before.out after.out out) told (unasked input out) (inl none) (inl none) tt counts
 
   -- memory was wanting, before a line was asked for
-  pub query_memory : ticks ≡ 0 → (result : Status) → KeepsFiles before.files after.files → Keeps before.input after.input → Keeps before.out after.out
+  pub query_memory : ticks ≡ 0 → KeepsFiles before.files after.files → KeepsInput before after → Keeps before.out after.out
       → Tells memory_text Memory before.err after.err before.faults.err after.faults.err result → Promise func_program task before after ticks result
-  query_memory none result files input out told = by_memory_message task before after ticks result files out (λ _ _. input) told (unasked input out) (inl none) (inl none) tt counts
+  query_memory none files input out told = by_memory_message task before after ticks result files out (λ _ _. input.bytes) told (unasked input out) (inl none) (inl none) tt counts
 
   module _ (d : Dump) (stored : IsStored func_program name before d) where
     -- the same file, by the name of the task
@@ -170,19 +171,19 @@ module _ (name : Text) (before after : World) (ticks : ℕ) (counts : NoCountFel
 
     -- all lines are answered
     pub query_done : (ls : List Text) → ReadsAll before.input after.input ls → Answers d ls before.out after.out ticks
-        → KeepsFiles before.files after.files → Keeps before.err after.err → Promise func_program task before after ticks Done
-    query_done ls all answered files err = by_outcome func_program task before after ticks Done
+        → KeepsFiles before.files after.files → Keeps before.err after.err → result ≡ Done → Promise func_program task before after ticks result
+    query_done ls all answered files err is = by_outcome func_program task before after ticks result
         (record { status = Done; reading = to_end; out = answers d ls; err = []; file = None })
         (inl (record { dump = d; asked = ls; stored = stored; input = all_lines before.input after.input ls all; fits = no_query_fault standard_limits ls answered.queries.short answered.queries.few; is = refl }))
-        refl (λ e. absurd cc) (λ e. absurd cc)
+        (sym is) (λ e. absurd cc) (λ e. absurd cc)
         (record { files = files; input = (all.taken, all.consumed, all.end); out = answered.out; err = kept_appends before.err after.err err })
         (inr (within all.taken at_output ls [] all.consumed (all.are ∙ sym (append-nil ls)) answered.queries answered.bound))
         tt counts
 
     -- input failed; the complete lines before are answered
     pub input_failed : (ls : List Text) → FailsBehind before.input after.input 8191 ls → Answers d ls before.out after.out ticks → CountRose before after the_input
-        → KeepsFiles before.files after.files → (result : Status) → Fails at_input before.err after.err before.faults.err after.faults.err result → Promise func_program task before after ticks result
-    input_failed ls fails answered rose files result told =
+        → KeepsFiles before.files after.files → Fails at_input before.err after.err before.faults.err after.faults.err result → Promise func_program task before after ticks result
+    input_failed ls fails answered rose files told =
         let whole : served standard_limits (complete_lines fails.taken) ≡ ls = ap (served standard_limits) fails.are ∙ all_served standard_limits ls answered.queries.short answered.queries.few in
         by_failure task before after ticks at_input result told rose
         (record { taken = fails.taken; consumed = fails.consumed; fine = ap (first_query_fault standard_limits) fails.are ∙ no_query_fault standard_limits ls answered.queries.short answered.queries.few; short = fails.short })
@@ -198,8 +199,8 @@ module _ (name : Text) (before after : World) (ticks : ℕ) (counts : NoCountFel
     -- a write of the answers failed
     pub answers_failed : (ls : List Text) → BreaksBehind before.input after.input ls → AreQueries ls → ticks ≤ all_reads d ls → (part : Text) → IsPrefix part (answers d ls)
         → Appends before.out after.out part → CountRose before after the_out → KeepsFiles before.files after.files
-        → (result : Status) → Fails at_output before.err after.err before.faults.err after.faults.err result → Promise func_program task before after ticks result
-    answers_failed ls behind fine bound part begins out rose files result told = by_failure task before after ticks at_output result told rose tt
+        → Fails at_output before.err after.err before.faults.err after.faults.err result → Promise func_program task before after ticks result
+    answers_failed ls behind fine bound part begins out rose files told = by_failure task before after ticks at_output result told rose tt
         part out (due_out ls part fine behind.told begins) (inl files)
         (λ only other same. absurd cc)
         (λ other same. record {
@@ -212,9 +213,9 @@ module _ (name : Text) (before after : World) (ticks : ℕ) (counts : NoCountFel
     -- a line is refused: those before are answered
     pub line_refused : (ls : List Text) (text : Text) (IsLine : Text → Type 0) → StopsAt before.input after.input ls IsLine → Answers d ls before.out after.out ticks
         → ((line : Text) (more : List Text) → IsLine line → first_query_fault standard_limits (ls ++ line ∷ more) ≡ Some (record { line = length ls + 1; text = text }))
-        → (result : Status) → KeepsFiles before.files after.files → Tells text BadInput before.err after.err before.faults.err after.faults.err result
+        → KeepsFiles before.files after.files → Tells text BadInput before.err after.err before.faults.err after.faults.err result
         → Promise func_program task before after ticks result
-    line_refused ls text IsLine stops answered refuses result files told = by_input before.input refl stops.told
+    line_refused ls text IsLine stops answered refuses files told = by_input before.input refl stops.told
       where
         fault : QueryFault
         fault = record { line = length ls + 1; text = text }

@@ -3,16 +3,17 @@ use Rattle.std.proofs.Common.{◌≡◌, ℕ, refl, inl, inr, ◌⊎◌}
 use Rattle.sx_spec.specs.declared.Status.{Status}
 use Rattle.sx_spec.specs.declared.Status.TheVariants.{Usage, Memory}
 use Rattle.sx_spec.specs.declared.Rule.{Rule}
+use Rattle.sx_spec.specs.Causes.{is_fault}
 use Rattle.sx_spec.specs.Command.{Text, Task, usage, build, query, open_dump, show_dump, trial}
 use Rattle.sx_spec.specs.Messages.{Place, at_output, at_error, memory_text, usage_text}
 use Rattle.sx_spec.specs.Outcomes.{usage_outcome}
 use Rattle.sx_spec.specs.Run.{Promise, KeepsUnused, QueryReads, QueryAfterFault}
-use Rattle.sx_spec.specs.World.{World, NoCountFell, KeepsShelf, KeepsInput, KeepsOut}
+use Rattle.sx_spec.specs.World.{World, CountsStay, KeepsShelf, KeepsInput, KeepsOut}
 use Rattle.sx_spec_program.specs.Program.{func_program}
 use Rattle.sx_cli.specs.Telling.{Tells}
 use Rattle.sx_cli.proofs.Endings.{by_message, by_memory_message, kept_appends}
 
-module _ (before after : World) (ticks : ℕ) (none : ticks ≡ 0) (counts : NoCountFell before after) (shelf : KeepsShelf before after) (input : KeepsInput before after) (out : KeepsOut before after) (result : Status) where
+module _ (before after : World) (ticks : ℕ) (none : ticks ≡ 0) (result : Status) (counts : CountsStay (is_fault result) before after) (shelf : KeepsShelf before after) (input : KeepsInput before after) (out : KeepsOut before after) where
   -- no word was read
   no_reads : (task : Task) (place : Place) → QueryReads func_program task before after place ticks
   no_reads (usage rule) place = tt
@@ -32,7 +33,7 @@ module _ (before after : World) (ticks : ℕ) (none : ticks ≡ 0) (counts : NoC
 
   unasked : (name : Text) → QueryAfterFault func_program name before after at_error
   unasked name = record {
-    input_failed = λ _ _ _. inr (refl, record { input = input.bytes; out = out.bytes });
+    input_failed = λ _ _ _. inr (refl, record { input = input; out = out.bytes });
     message_failed = λ _. inl out.bytes;
   }
 

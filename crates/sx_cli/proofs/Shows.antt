@@ -3,12 +3,13 @@ use Rattle.std.proofs.Common.{◌≡◌, ℕ, [], refl, sym, subst, inl, inr, No
 use Rattle.std.specs.Io.KnownBytes.{Keeps}
 use Rattle.sx_spec.specs.declared.Status.{Status}
 use Rattle.sx_spec.specs.declared.Status.TheVariants.{Done, BadDump, Memory}
+use Rattle.sx_spec.specs.Causes.{is_fault}
 use Rattle.sx_spec.specs.Command.{Text, BuildTask, build, query}
 use Rattle.sx_spec.specs.Layout.{Dump}
 use Rattle.sx_spec.specs.Messages.{Place, at_dump, at_output, at_error, memory_text}
 use Rattle.sx_spec.specs.Outcomes.{IsDue, IsDumpRefused, IsShown}
 use Rattle.sx_spec.specs.Run.{Promise, QueryReads, KeepsUnused, DumpMayFail}
-use Rattle.sx_spec.specs.World.{World, Outcome, NoCountFell, KeepsFiles, KeepsInput, untouched}
+use Rattle.sx_spec.specs.World.{World, Outcome, CountsStay, KeepsFiles, KeepsInput, untouched}
 use Rattle.sx_spec_program.specs.Program.{func_program}
 use Rattle.sx_cli.specs.Opening.{IsOpened, StopsAtFile, StopsAtCheck}
 use Rattle.sx_cli.specs.Showing.{wanted_task, wanted_text, Shows}
@@ -37,9 +38,9 @@ keeps_input : (w : Wanted) (name : Text) (before after : World) → KeepsInput b
 keeps_input Line name before after k = k
 keeps_input Whole name before after k = k
 
-may_fail : (w : Wanted) (name : Text) (before : World) → DumpMayFail func_program (wanted_task w name) before
-may_fail Line name before = tt
-may_fail Whole name before = tt
+may_fail : (w : Wanted) (name : Text) (before after : World) → DumpMayFail func_program (wanted_task w name) before after
+may_fail Line name before after = tt
+may_fail Whole name before after = tt
 
 no_query : {P : Type 0} (w : Wanted) (name other : Text) → wanted_task w name ≡ query other → P
 no_query Line name other e = absurd cc
@@ -51,34 +52,34 @@ no_build Whole name b e = absurd cc
 
 -- ---- the ends
 
-module _ (w : Wanted) (name : Text) (before after : World) (ticks : ℕ) (counts : NoCountFell before after) (input : KeepsInput before after) (files : KeepsFiles before.files after.files) where
+module _ (w : Wanted) (name : Text) (before after : World) (ticks : ℕ) (result : Status) (counts : CountsStay (is_fault result) before after) (input : KeepsInput before after) (files : KeepsFiles before.files after.files) where
   -- there is no such dump
-  refused : Keeps before.out after.out → (reason : Text) (o : Outcome) → o ≡ record { status = BadDump; reading = untouched; out = []; err = reason; file = None } → IsDumpRefused func_program name before o → (result : Status)
+  refused : Keeps before.out after.out → (reason : Text) (o : Outcome) → o ≡ record { status = BadDump; reading = untouched; out = []; err = reason; file = None } → IsDumpRefused func_program name before o
       → Tells reason BadDump before.err after.err before.faults.err after.faults.err result → Promise func_program (wanted_task w name) before after ticks result
-  refused out reason o is r result told = by_message (wanted_task w name) before after ticks
+  refused out reason o is r told = by_message (wanted_task w name) before after ticks
       (record { status = BadDump; reading = untouched; out = []; err = reason; file = None }) (due_refused w name before (record { status = BadDump; reading = untouched; out = []; err = reason; file = None }) (subst (IsDumpRefused func_program name before) is r))
       reason refl BadDump result refl (λ e. absurd cc) (λ e. absurd cc) refl
       files input.bytes (kept_appends before.out after.out out) told (λ other e. no_query w name other e)
       (no_reads w name before after at_output ticks) (no_reads w name before after at_error ticks) (keeps_input w name before after input) counts
 
   -- memory was wanting
-  wanting : Keeps before.out after.out → (result : Status) → Tells memory_text Memory before.err after.err before.faults.err after.faults.err result → Promise func_program (wanted_task w name) before after ticks result
-  wanting out result told = by_memory_message (wanted_task w name) before after ticks result files out (λ other e. no_query w name other e) told (λ other e. no_query w name other e)
+  wanting : Keeps before.out after.out → Tells memory_text Memory before.err after.err before.faults.err after.faults.err result → Promise func_program (wanted_task w name) before after ticks result
+  wanting out told = by_memory_message (wanted_task w name) before after ticks result files out (λ other e. no_query w name other e) told (λ other e. no_query w name other e)
       (no_reads w name before after at_output ticks) (no_reads w name before after at_error ticks) (keeps_input w name before after input) counts
 
   -- the file isn't there, or couldn't be read
-  pub file_stops : Keeps before.out after.out → (result : Status) → StopsAtFile name before.files before.faults.shelf after.faults.shelf before.err after.err before.faults.err after.faults.err result
+  pub file_stops : Keeps before.out after.out → StopsAtFile name before.files before.faults.shelf after.faults.shelf before.err after.err before.faults.err after.faults.err result
       → Promise func_program (wanted_task w name) before after ticks result
-  file_stops out result (inl r) = refused out r.reason _ refl (record { reason = r.reason; first_reason = r.first_reason; is = refl }) result r.told
-  file_stops out result (inr (inl (rose, told))) = by_failure (wanted_task w name) before after ticks at_dump result told rose (may_fail w name before)
+  file_stops out (inl r) = refused out r.reason _ refl (record { reason = r.reason; first_reason = r.first_reason; is = refl }) r.told
+  file_stops out (inr (inl (rose, told))) = by_failure (wanted_task w name) before after ticks at_dump result told rose (may_fail w name before after)
       [] (kept_appends before.out after.out out) (inl refl) (inl files) (λ only b e. no_build w name b e) (λ other e. no_query w name other e)
       (no_reads w name before after at_dump ticks) (keeps_input w name before after input) counts
-  file_stops out result (inr (inr told)) = wanting out result told
+  file_stops out (inr (inr told)) = wanting out told
 
   -- the file is no dump
-  pub check_stops : Keeps before.out after.out → (result : Status) → StopsAtCheck name before.files before.err after.err before.faults.err after.faults.err result → Promise func_program (wanted_task w name) before after ticks result
-  check_stops out result (inl r) = refused out r.reason _ refl (record { reason = r.reason; first_reason = r.first_reason; is = refl }) result r.told
-  check_stops out result (inr told) = wanting out result told
+  pub check_stops : Keeps before.out after.out → StopsAtCheck name before.files before.err after.err before.faults.err after.faults.err result → Promise func_program (wanted_task w name) before after ticks result
+  check_stops out (inl r) = refused out r.reason _ refl (record { reason = r.reason; first_reason = r.first_reason; is = refl }) r.told
+  check_stops out (inr told) = wanting out told
 
   module _ (d : Dump) (opened : IsOpened name before.files d) where
     outcome : Outcome
@@ -89,14 +90,13 @@ module _ (w : Wanted) (name : Text) (before after : World) (ticks : ℕ) (counts
     due = due_shown w name before outcome (record { dump = d; stored = stored_of name before d opened; is = refl })
 
     -- the text was written, or not to its end, or not begun
-    pub shown_ends : (result : Status) → Shows (wanted_text w d) before.out after.out before.faults.out after.faults.out before.err after.err before.faults.err after.faults.err result
+    pub shown_ends : Shows (wanted_text w d) before.out after.out before.faults.out after.faults.out before.err after.err before.faults.err after.faults.err result
         → Promise func_program (wanted_task w name) before after ticks result
     unfolding outcome
-    shown_ends result (inl s) = subst (Promise func_program (wanted_task w name) before after ticks) (sym s.is)
-        (by_outcome func_program (wanted_task w name) before after ticks Done outcome due refl (λ e. absurd cc) (λ e. absurd cc)
+    shown_ends (inl s) = let is = s.is in by_outcome func_program (wanted_task w name) before after ticks result outcome due (sym s.is) (λ e. absurd cc) (λ e. absurd cc)
         (record { files = files; input = input.bytes; out = s.out; err = kept_appends before.err after.err s.err })
-        (no_reads w name before after at_output ticks) (keeps_input w name before after input) counts)
-    shown_ends result (inr (inl s)) = by_failure (wanted_task w name) before after ticks at_output result s.told s.cause tt
+        (no_reads w name before after at_output ticks) (keeps_input w name before after input) counts
+    shown_ends (inr (inl s)) = by_failure (wanted_task w name) before after ticks at_output result s.told s.cause tt
         s.out.0 s.out.2 (inr (outcome, due, s.out.1)) (inl files) (λ only b e. no_build w name b e) (λ other e. no_query w name other e)
         (no_reads w name before after at_output ticks) (keeps_input w name before after input) counts
-    shown_ends result (inr (inr u)) = wanting u.out result u.told
+    shown_ends (inr (inr u)) = wanting u.out u.told

@@ -1,5 +1,5 @@
 -- What reading the key lines of input comes to.
-use Rattle.std.specs.Prelude.{◌≡◌, ⊤, ℕ, List, Option, Some, None}
+use Rattle.std.specs.Prelude.{◌≡◌, ⊤, ℕ, Bool, true, false, List, Option, Some, None, Result, Err}
 use Rattle.sx_spec.specs.declared.Limits.{Limits}
 use Rattle.sx_spec.specs.Causes.{Rose}
 use Rattle.sx_spec.specs.Command.{Text}
@@ -9,8 +9,13 @@ use Rattle.sx_bits.specs.declared.fault.KeyFault.{KeyFault}
 use Rattle.sx_cli.specs.declared.keys.KeysStop.{KeysStop}
 use Rattle.sx_cli.specs.declared.keys.KeysStop.TheVariants.{Refused, Failed, Memory}
 use Rattle.sx_cli.specs.Building.{RefusesLine}
-use Rattle.sx_cli.specs.KeyLines.{reason_of, fault_of}
+use Rattle.sx_text.specs.Reasons.{reason_of, fault_of}
 use Rattle.sx_cli.specs.Progress.{ReadsAll, FailsBehind}
+
+-- whether no key list was read since input has failed
+abbrev pub keys_failed : {T : Type 0} → Result T KeysStop → Bool
+keys_failed (Err Failed) = true
+keys_failed _ = false
 
 -- the keys are the lines of input, all of them
 pub record ReadsKeys (old new : Option (List ℕ)) (keys : Keys) : Type 0 where

@@ -1,5 +1,4 @@
 pub mod Building
-pub mod FailureTexts
 pub mod KeyLines
 pub mod KeyReading
 pub mod Opening

@@ -1,8 +1,8 @@
 -- What the file of a dump holds.
-use Rattle.std.specs.Prelude.{◌≡◌, ◌⊎◌, ◌+◌, ◌^◌, ◌<◌, ℕ, List, length, take, slice_index, Option, Some, None, IfSome}
+use Rattle.std.specs.Prelude.{◌≡◌, ◌⊎◌, ◌+◌, ◌^◌, ◌<◌, ℕ, List, length, take, slice_index, Option, Some, None, IfSome, Bool, false, Result, Ok, Err}
 use Rattle.sx_spec.specs.declared.Status.{Status}
 use Rattle.sx_spec.specs.declared.Status.TheVariants.{BadDump, Memory}
-use Rattle.sx_spec.specs.Causes.{Rose}
+use Rattle.sx_spec.specs.Causes.{Rose, is_fault}
 use Rattle.sx_spec.specs.Command.{Text}
 use Rattle.sx_spec.specs.Layout.{Dump, bytes_words, dump_bytes, Passes}
 use Rattle.sx_spec.specs.Messages.{at_dump, memory_text}
@@ -11,6 +11,11 @@ use Rattle.sx_spec_program.specs.Program.{func_program, func_offer, offered_faul
 use Rattle.sx_cli.specs.Telling.{Tells, Fails}
 use Rattle.sx_spec.specs.World.{Files}
 use Rattle.sx_cli.specs.declared.dump_file.DumpFile.{DumpFile}
+
+-- whether a run that stops here ends with a fault
+abbrev pub ends_in_fault : {T : Type 0} → Result T Status → Bool
+ends_in_fault (Err status) = is_fault status
+ends_in_fault (Ok _) = false
 
 -- the words are those of bytes, and so many bytes there are
 pub record IsDecoded (bytes words : List ℕ) (size : ℕ) : Type 0 where

@@ -1,5 +1,5 @@
 -- What answering the query lines of input comes to.
-use Rattle.std.specs.Prelude.{◌≡◌, ◌⊎◌, Bool, false, ℕ, ◌+◌, ◌<◌, ◌≤◌, List, [], ◌++◌, length, Option, None}
+use Rattle.std.specs.Prelude.{◌≡◌, ◌⊎◌, Bool, true, false, ℕ, ◌+◌, ◌<◌, ◌≤◌, List, [], ◌++◌, length, Option, None}
 use Rattle.std.specs.Io.KnownBytes.{Appends, Keeps}
 use Rattle.sx_spec.specs.Causes.{Rose}
 use Rattle.sx_spec.specs.Command.{Text}
@@ -23,6 +23,16 @@ pub record Streams : Type 0 where
   pub out : Option (List ℕ)
   pub input_faults : ℕ
   pub out_faults : ℕ
+
+-- whether the lines came to an end since input has failed
+abbrev pub input_failed : Served → Bool
+input_failed InputFailed = true
+input_failed _ = false
+
+-- whether they came to an end since out has failed
+abbrev pub out_failed : Served → Bool
+out_failed OutputFailed = true
+out_failed _ = false
 
 -- all lines were answered
 pub record AllServed (d : Dump) (old new : Streams) (ticks : ℕ) : Type 0 where

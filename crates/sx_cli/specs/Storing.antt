@@ -33,6 +33,7 @@ pub record IsWritten (name : Text) (words line : List ℕ) (old new : Outside) (
 pub record IsFileCut (name : Text) (words : List ℕ) (old new : Outside) (result : Status) : Type 0 where
   pub files : SetsPart name (words_bytes words) old.files new.files
   pub out : Keeps old.out new.out
+  pub count : new.out_faults ≡ old.out_faults
   pub cause : Rose old.shelf_faults new.shelf_faults
   pub told : Fails at_dump old.err new.err old.err_faults new.err_faults result
 

@@ -2,36 +2,38 @@
 ghost use Rattle.std.specs.Prelude.{◌≡◌, ◌≤◌, ◌⊎◌, ℕ, MatchResult, length};
 ghost use Rattle.sx_edge.specs.Shelf.{idle};
 ghost use Rattle.sx_spec.specs.declared.Status.TheVariants.{BadInput, Memory};
+ghost use Rattle.sx_spec.specs.Causes.{StaysUnless, is_fault};
 ghost use Rattle.sx_spec.specs.Command.{build as build_of_task};
 ghost use Rattle.sx_spec.specs.Messages.{key_text, values_text, memory_text};
 ghost use Rattle.sx_spec.specs.Run.{Promise};
 ghost use Rattle.sx_spec.specs.World.{world, KeepsFiles};
 ghost use Rattle.sx_spec_program.specs.Program.{func_program};
 ghost use Rattle.sx_cli.specs.Building.{IsPlan, build_of};
-ghost use Rattle.sx_cli.specs.KeyLines.{fault_of};
+ghost use Rattle.sx_text.specs.Reasons.{fault_of};
 ghost use Rattle.sx_cli.specs.Storing.{Stores, GivenEnds};
 ghost use Rattle.sx_cli.specs.Telling.{Tells};
-ghost use Rattle.sx_cli.specs.ValueLines.{values_fault_of, Given, StopsGiving};
+ghost use Rattle.sx_cli.specs.ValueLines.{values_failed, Given, StopsGiving};
+ghost use Rattle.sx_text.specs.Reasons.{values_fault_of};
 
 use crate::dump::write_dump;
 use crate::keys::{KeysStop, read_keys};
-use crate::messages::{KeyReason, key_message, values_message};
 use crate::seeds::{Tried, try_seeds};
 use crate::telling::{Place, fail, tell, tell_memory};
-use crate::values::{ValuesFault, ValuesStop, ranks, read_values};
+use crate::values::{ValuesStop, ranks, read_values};
 use std::alloc::Global;
 use sx_bits::KeyList;
 use sx_edge::shelf::Shelf;
 use sx_edge::sink::{Sink, write_all};
 use sx_edge::source::Source;
 use sx_spec::Status;
+use sx_text::messages::{KeyReason, ValuesFault, key_message, values_message};
 use sx_words::BuildTask;
 
 /// Tells why a line is no key.
 fn refuse_key<E: Sink>(alloc: Global, err: &mut E, line: u64, reason: KeyReason) -> Status
     ensures told { Tells (key_text (fault_of line reason)) BadInput (E.written err.old) (E.written err.new) (E.faults err.old) (E.faults err.new) result
         ⊎ Tells memory_text Memory (E.written err.old) (E.written err.new) (E.faults err.old) (E.faults err.new) result }
-    ensures later { E.faults err.old ≤ E.faults err.new }
+    ensures counts { StaysUnless (is_fault result) (E.faults err.old) (E.faults err.new) }
 {
     match key_message(alloc, line, reason) {
         Ok(text) => tell(err, &text, Status::BadInput),
@@ -43,7 +45,7 @@ fn refuse_key<E: Sink>(alloc: Global, err: &mut E, line: u64, reason: KeyReason)
 fn refuse_values<E: Sink>(alloc: Global, err: &mut E, keys: u32, fault: ValuesFault) -> Status
     ensures told { Tells (values_text keys (values_fault_of fault)) BadInput (E.written err.old) (E.written err.new) (E.faults err.old) (E.faults err.new) result
         ⊎ Tells memory_text Memory (E.written err.old) (E.written err.new) (E.faults err.old) (E.faults err.new) result }
-    ensures later { E.faults err.old ≤ E.faults err.new }
+    ensures counts { StaysUnless (is_fault result) (E.faults err.old) (E.faults err.new) }
 {
     match values_message(alloc, keys, fault) {
         Ok(text) => tell(err, &text, Status::BadInput),
@@ -62,7 +64,7 @@ fn values_for<F: Shelf>(
     ensures values { MatchResult result (λ v. Given task.now.values keys (F.files files.old) v.items)
         (StopsGiving task.now.values keys (F.files files.old) (F.faults files.old) (F.faults files.new)) }
     ensures files { KeepsFiles (F.files files.old) (F.files files.new) }
-    ensures later { F.faults files.old ≤ F.faults files.new }
+    ensures counts { StaysUnless (values_failed result) (F.faults files.old) (F.faults files.new) }
     ensures closed { F.in_use files.new ≡ idle }
 {
     match &task.values {
@@ -89,9 +91,9 @@ fn store<F: Shelf, O: Sink, E: Sink>(
         (record { files = F.files files.new; out = O.written out.new; err = E.written err.new; shelf_faults = F.faults files.new; out_faults = O.faults out.new; err_faults = E.faults err.new })
         result }
     ensures closed { F.in_use files.new ≡ idle }
-    ensures later { F.faults files.old ≤ F.faults files.new }
-    ensures later_out { O.faults out.old ≤ O.faults out.new }
-    ensures later_err { E.faults err.old ≤ E.faults err.new }
+    ensures counts { StaysUnless (is_fault result) (F.faults files.old) (F.faults files.new) }
+    ensures counts_out { StaysUnless (is_fault result) (O.faults out.old) (O.faults out.new) }
+    ensures counts_err { StaysUnless (is_fault result) (E.faults err.old) (E.faults err.new) }
 {
     match write_dump(files, name, words) {
         Ok(()) => match write_all(out, line) {
@@ -120,9 +122,9 @@ fn build_given<F: Shelf, O: Sink, E: Sink>(
         (record { files = F.files files.new; out = O.written out.new; err = E.written err.new; shelf_faults = F.faults files.new; out_faults = O.faults out.new; err_faults = E.faults err.new })
         result }
     ensures closed { F.in_use files.new ≡ idle }
-    ensures later { F.faults files.old ≤ F.faults files.new }
-    ensures later_out { O.faults out.old ≤ O.faults out.new }
-    ensures later_err { E.faults err.old ≤ E.faults err.new }
+    ensures counts { StaysUnless (is_fault result) (F.faults files.old) (F.faults files.new) }
+    ensures counts_out { StaysUnless (is_fault result) (O.faults out.old) (O.faults out.new) }
+    ensures counts_err { StaysUnless (is_fault result) (E.faults err.old) (E.faults err.new) }
 {
     match try_seeds(alloc, &task.plan, task.seeds.as_slice(), keys, values) {
         Ok(Tried::Dump { words, line }) => store(

@@ -1,13 +1,14 @@
 //! The key lines of input.
 ghost use Rattle.std.specs.Prelude.{◌≡◌, ◌≤◌, ◌++◌, ◌∷◌, [], None, length, MatchResult};
+ghost use Rattle.sx_spec.specs.Causes.{StaysUnless};
 ghost use Rattle.sx_spec.specs.Keys.{refusal};
-ghost use Rattle.sx_cli.specs.KeyReading.{ReadsKeys, StopsKeys, StopsPush, StopsFault};
+ghost use Rattle.sx_cli.specs.KeyReading.{keys_failed, ReadsKeys, StopsKeys, StopsPush, StopsFault};
 
-use crate::messages::KeyReason;
 use std::alloc::Global;
 use sx_bits::{KeyFault, KeyList, Limits};
 use sx_edge::line::{LineFault, LineReader, Step};
 use sx_edge::source::Source;
+use sx_text::messages::KeyReason;
 
 /// How many bytes a line has at most.
 pub const MAX_LINE: usize = 8191;
@@ -54,7 +55,7 @@ fn push_key(keys: &mut KeyList, number: u64, line: &[u8]) -> Result<(), KeysStop
 /// Reads the lines of input as keys, up to the first that is none.
 pub fn read_keys<S: Source>(alloc: Global, input: &mut S) -> Result<KeyList, KeysStop>
     ensures keys { MatchResult result (ReadsKeys (S.left input.old) (S.left input.new)) (StopsKeys (S.left input.old) (S.left input.new) (S.faults input.old) (S.faults input.new)) }
-    ensures later { S.faults input.old ≤ S.faults input.new }
+    ensures counts { StaysUnless (keys_failed result) (S.faults input.old) (S.faults input.new) }
 {
     let mut reader = match LineReader::new(alloc, MAX_LINE) {
         Ok(reader) => reader,

@@ -4,9 +4,7 @@
 mod build;
 mod dump;
 mod dump_file;
-mod failures;
 mod keys;
-pub mod messages;
 mod open;
 mod query;
 pub mod run;

@@ -1,17 +1,16 @@
 //! A dump that is read from its file.
 ghost use Rattle.std.specs.Prelude.{◌≡◌, ◌≢◌, ◌≤◌, ◌⊎◌, List, ℕ, Option, Err, IfOk, OnOk, MatchResult};
-ghost use Rattle.sx_edge.specs.Shelf.{idle};
+ghost use Rattle.sx_edge.specs.Shelf.{idle, file_failed};
 ghost use Rattle.sx_spec.specs.declared.Status.TheVariants.{BadDump, Memory};
-ghost use Rattle.sx_spec.specs.Causes.{Rose};
+ghost use Rattle.sx_spec.specs.Causes.{Rose, StaysUnless, is_fault};
 ghost use Rattle.sx_spec.specs.Command.{Text};
 ghost use Rattle.sx_spec.specs.Messages.{check_text, memory_text};
 ghost use Rattle.sx_spec.specs.World.{Files, KeepsFiles};
 ghost use Rattle.sx_dump.specs.Opening.{dump_in};
-ghost use Rattle.sx_cli.specs.Opening.{IsDecoded, IsFound, IsFile, IsOpened, StopsAtFile, StopsAtCheck};
+ghost use Rattle.sx_cli.specs.Opening.{ends_in_fault, IsDecoded, IsFound, IsFile, IsOpened, StopsAtFile, StopsAtCheck};
 ghost use Rattle.sx_cli.specs.Telling.{Tells};
 
 use crate::dump_file::DumpFile;
-use crate::messages::{check_message, no_dump_message};
 use crate::telling::{Place, fail, tell, tell_memory};
 use std::alloc::Global;
 use sx_dump::{Dump, OpenFault, open_dump, words_of};
@@ -19,6 +18,7 @@ use sx_edge::shelf::{ReadFault, Shelf, read_file};
 use sx_edge::sink::Sink;
 use sx_fields::bank::Words;
 use sx_spec::Status;
+use sx_text::messages::{check_message, no_dump_message};
 
 /// How many bytes a dump has at most.
 const MAX_BYTES: u64 = 1_073_741_824;
@@ -47,7 +47,7 @@ fn read_dump<F: Shelf>(
     ensures found { IfOk result (IsFound name.now (F.files files.old)) }
     ensures files { KeepsFiles (F.files files.old) (F.files files.new) }
     ensures failed { result ≡ Err ReadFault.Failed → Rose (F.faults files.old) (F.faults files.new) }
-    ensures later { F.faults files.old ≤ F.faults files.new }
+    ensures counts { StaysUnless (file_failed result) (F.faults files.old) (F.faults files.new) }
     ensures closed { F.in_use files.new ≡ idle }
 {
     match files.open_file(name) {
@@ -82,8 +82,8 @@ pub fn find_dump<F: Shelf, E: Sink>(
     ensures quiet { OnOk result ((E.written err.new ≡ E.written err.old) × (E.faults err.new ≡ E.faults err.old)) }
     ensures files { KeepsFiles (F.files files.old) (F.files files.new) }
     ensures closed { F.in_use files.new ≡ idle }
-    ensures later { F.faults files.old ≤ F.faults files.new }
-    ensures later_err { E.faults err.old ≤ E.faults err.new }
+    ensures counts { StaysUnless (ends_in_fault result) (F.faults files.old) (F.faults files.new) }
+    ensures counts_err { StaysUnless (ends_in_fault result) (E.faults err.old) (E.faults err.new) }
 {
     match read_dump(alloc, files, name) {
         Ok(Some(file)) => Ok(file),
@@ -97,7 +97,7 @@ pub fn find_dump<F: Shelf, E: Sink>(
 fn refuse_check<E: Sink>(alloc: Global, err: &mut E, check: u8) -> Status
     ensures told { Tells (check_text check) BadDump (E.written err.old) (E.written err.new) (E.faults err.old) (E.faults err.new) result
         ⊎ Tells memory_text Memory (E.written err.old) (E.written err.new) (E.faults err.old) (E.faults err.new) result }
-    ensures later { E.faults err.old ≤ E.faults err.new }
+    ensures counts { StaysUnless (is_fault result) (E.faults err.old) (E.faults err.new) }
 {
     match check_message(alloc, check) {
         Ok(text) => tell(err, &text, Status::BadDump),
@@ -115,7 +115,7 @@ pub fn check_dump<'a, E: Sink>(
         → MatchResult result (λ d. IsOpened name files (dump_in d.bank.words.now))
         (StopsAtCheck name files (E.written err.old) (E.written err.new) (E.faults err.old) (E.faults err.new)) }
     ensures quiet { OnOk result ((E.written err.new ≡ E.written err.old) × (E.faults err.new ≡ E.faults err.old)) }
-    ensures later_err { E.faults err.old ≤ E.faults err.new }
+    ensures counts_err { StaysUnless (ends_in_fault result) (E.faults err.old) (E.faults err.new) }
 {
     match open_dump(alloc, &file.words, file.bytes, Words::new(&file.words)) {
         Ok(dump) => Ok(dump),

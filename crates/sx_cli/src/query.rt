@@ -2,6 +2,7 @@
 ghost use Rattle.std.specs.Prelude.{◌≡◌, ◌≢◌, ◌-◌, ◌≤◌, ◌∷◌, [], codes, decimal, length};
 ghost use Rattle.sx_edge.specs.Shelf.{idle};
 ghost use Rattle.sx_spec.specs.declared.Status.TheVariants.{BadInput};
+ghost use Rattle.sx_spec.specs.Causes.{StaysUnless, is_fault};
 ghost use Rattle.sx_spec.specs.Command.{query as query_of};
 ghost use Rattle.sx_spec.specs.Messages.{message};
 ghost use Rattle.sx_spec.specs.Run.{Promise};
@@ -29,7 +30,7 @@ fn refuse_line<E: Sink>(text: &mut TextBuffer, err: &mut E, line: u64, told: &st
     requires empty { text.old ≡ [] }
     requires short { length told.now ≤ 64 }
     ensures told { Tells (message (codes "query line " ∷ decimal line ∷ told.now ∷ [])) BadInput (E.written err.old) (E.written err.new) (E.faults err.old) (E.faults err.new) result }
-    ensures later { E.faults err.old ≤ E.faults err.new }
+    ensures counts { StaysUnless (is_fault result) (E.faults err.old) (E.faults err.new) }
 {
     text.push(b"sux: query line ");
     text.push_number(line);
@@ -42,7 +43,7 @@ fn refuse_line<E: Sink>(text: &mut TextBuffer, err: &mut E, line: u64, told: &st
 fn end<E: Sink>(served: Served, text: &mut TextBuffer, err: &mut E) -> Status
     requires empty { served ≢ Served.OutputFailed → text.old ≡ [] }
     ensures ends { Ends served (E.written err.old) (E.written err.new) (E.faults err.old) (E.faults err.new) result }
-    ensures later { E.faults err.old ≤ E.faults err.new }
+    ensures counts { StaysUnless (is_fault result) (E.faults err.old) (E.faults err.new) }
 {
     match served {
         Served::Done => Status::Done,

@@ -2,6 +2,7 @@
 ghost use Rattle.std.specs.Prelude.{◌≡◌, ◌-◌, ◌≤◌, ◌⊎◌};
 ghost use Rattle.sx_edge.specs.Shelf.{idle};
 ghost use Rattle.sx_spec.specs.declared.Status.TheVariants.{Memory, Usage};
+ghost use Rattle.sx_spec.specs.Causes.{StaysUnless, is_fault};
 ghost use Rattle.sx_spec.specs.Messages.{memory_text, usage_text};
 ghost use Rattle.sx_spec.specs.Run.{Promise};
 ghost use Rattle.sx_spec.specs.World.{world};
@@ -10,7 +11,6 @@ ghost use Rattle.sx_spec_program.specs.Program.{func_offer, func_program};
 ghost use Rattle.sx_cli.specs.Telling.{Tells};
 
 use crate::build::build;
-use crate::messages::usage_message;
 use crate::query::query;
 use crate::show::{Wanted, show};
 use crate::telling::{tell, tell_memory};
@@ -22,13 +22,14 @@ use sx_edge::source::Source;
 use sx_edge::words::WordList;
 use sx_spec::{Rule, Status};
 use sx_steps::Steps;
+use sx_text::messages::usage_message;
 use sx_words::{Task, read_words};
 
 /// Tells which rule of usage the words break.
 fn refuse_words<E: Sink>(alloc: Global, err: &mut E, rule: Rule) -> Status
     ensures told { Tells (usage_text rule) Usage (E.written err.old) (E.written err.new) (E.faults err.old) (E.faults err.new) result
         ⊎ Tells memory_text Memory (E.written err.old) (E.written err.new) (E.faults err.old) (E.faults err.new) result }
-    ensures later { E.faults err.old ≤ E.faults err.new }
+    ensures counts { StaysUnless (is_fault result) (E.faults err.old) (E.faults err.new) }
 {
     match usage_message(alloc, rule) {
         Ok(text) => tell(err, &text, Status::Usage),

@@ -1,10 +1,10 @@
 //! The query lines of input, answered by a dump.
 ghost use Rattle.std.specs.Prelude.{◌≡◌, ◌≢◌, ◌+◌, ◌-◌, ◌≤◌, ◌++◌, Some, None, false, [], ◌∷◌, length, OnOk, OnErr};
 ghost use Rattle.sx_edge.specs.Parts.{AppendsPrefix};
-ghost use Rattle.sx_spec.specs.Causes.{HasCause};
+ghost use Rattle.sx_spec.specs.Causes.{HasCause, StaysUnless};
 ghost use Rattle.sx_spec.specs.Reply.{answers, reads};
 ghost use Rattle.sx_dump.specs.Opening.{dump_in};
-ghost use Rattle.sx_cli.specs.Serving.{ServedTo, WritesHeld, Finishes};
+ghost use Rattle.sx_cli.specs.Serving.{input_failed, out_failed, ServedTo, WritesHeld, Finishes};
 
 use crate::keys::MAX_LINE;
 use std::sync::ledger::Ledger;
@@ -70,7 +70,7 @@ fn put_reply<B: WordBank + Copy, L: Ledger>(
 /// Writes the last answers.
 fn finish<O: Sink>(replies: &mut TextBuffer, out: &mut O, served: Served) -> Served
     ensures finished { Finishes replies.old (O.written out.old) (O.written out.new) (O.faults out.old) (O.faults out.new) served result }
-    ensures later { O.faults out.old ≤ O.faults out.new }
+    ensures counts { StaysUnless (out_failed result) (O.faults out.old) (O.faults out.new) }
     ensures empty { result ≢ Served.OutputFailed → replies.new ≡ [] }
 {
     match replies.write_to(out) {
@@ -97,8 +97,8 @@ pub fn serve<B: WordBank + Copy, S: Source, O: Sink, L: Ledger>(
         (steps.new - steps.old) result }
     ensures empty { result ≢ Served.OutputFailed → replies.new ≡ [] }
     ensures counted { steps.old ≤ steps.new }
-    ensures later { S.faults input.old ≤ S.faults input.new }
-    ensures later_out { O.faults out.old ≤ O.faults out.new }
+    ensures counts { StaysUnless (input_failed result) (S.faults input.old) (S.faults input.new) }
+    ensures counts_out { StaysUnless (out_failed result) (O.faults out.old) (O.faults out.new) }
 {
     'lines: loop {
         let ready = reader.has_line();

@@ -1,6 +1,7 @@
 //! The commands `open` and `dump`.
 ghost use Rattle.std.specs.Prelude.{◌≡◌, ◌≤◌, ℕ, List, Option};
 ghost use Rattle.sx_edge.specs.Shelf.{idle};
+ghost use Rattle.sx_spec.specs.Causes.{StaysUnless, is_fault};
 ghost use Rattle.sx_spec.specs.Messages.{opened_line};
 ghost use Rattle.sx_spec.specs.Run.{Promise};
 ghost use Rattle.sx_spec.specs.Show.{dump_text};
@@ -9,7 +10,6 @@ ghost use Rattle.sx_spec_program.specs.Program.{func_program};
 ghost use Rattle.sx_dump.specs.Opening.{dump_in};
 ghost use Rattle.sx_cli.specs.Showing.{Shows, wanted_task};
 
-use crate::messages::opened_text;
 use crate::open::{check_dump, find_dump};
 use crate::telling::{Place, fail, tell_memory};
 use std::alloc::Global;
@@ -18,6 +18,7 @@ use sx_edge::shelf::Shelf;
 use sx_edge::sink::{Sink, write_all};
 use sx_fields::bank::WordBank;
 use sx_spec::Status;
+use sx_text::messages::opened_text;
 
 /// Which text of a dump is wanted.
 #[derive(Clone, Copy, Debug, PartialEq, Eq)]
@@ -36,8 +37,8 @@ fn write_line<B: WordBank + Copy, O: Sink, E: Sink>(
     err: &mut E,
 ) -> Status
     ensures shown { Shows (opened_line (dump_in (B.words_of dump.now.bank))) (O.written out.old) (O.written out.new) (O.faults out.old) (O.faults out.new) (E.written err.old) (E.written err.new) (E.faults err.old) (E.faults err.new) result }
-    ensures later { O.faults out.old ≤ O.faults out.new }
-    ensures later_err { E.faults err.old ≤ E.faults err.new }
+    ensures counts { StaysUnless (is_fault result) (O.faults out.old) (O.faults out.new) }
+    ensures counts_err { StaysUnless (is_fault result) (E.faults err.old) (E.faults err.new) }
 {
     match opened_text(alloc, dump.kind(), dump.keys(), dump.words()) {
         Ok(text) => match write_all(out, &text) {
@@ -55,8 +56,8 @@ fn write_whole<B: WordBank + Copy, O: Sink, E: Sink>(
     err: &mut E,
 ) -> Status
     ensures shown { Shows (dump_text (dump_in (B.words_of dump.now.bank))) (O.written out.old) (O.written out.new) (O.faults out.old) (O.faults out.new) (E.written err.old) (E.written err.new) (E.faults err.old) (E.faults err.new) result }
-    ensures later { O.faults out.old ≤ O.faults out.new }
-    ensures later_err { E.faults err.old ≤ E.faults err.new }
+    ensures counts { StaysUnless (is_fault result) (O.faults out.old) (O.faults out.new) }
+    ensures counts_err { StaysUnless (is_fault result) (E.faults err.old) (E.faults err.new) }
 {
     match dump.show(out) {
         Ok(()) => Status::Done,

@@ -1,29 +1,18 @@
 //! The values of keys: those of a file, or the keys' numbers.
 ghost use Rattle.std.specs.Prelude.{◌≡◌, ◌≤◌, ◌<◌, IfOk, MatchResult, length};
 ghost use Rattle.sx_edge.specs.Shelf.{idle, reading};
+ghost use Rattle.sx_spec.specs.Causes.{StaysUnless};
 ghost use Rattle.sx_spec.specs.Command.{Text};
 ghost use Rattle.sx_spec.specs.Values.{plain_values};
 ghost use Rattle.sx_spec.specs.World.{KeepsFiles};
-ghost use Rattle.sx_cli.specs.ValueLines.{ReadsValues, StopsLines, GivesFile, StopsFile, StopsValue, PutsValue, IsTooFew};
+ghost use Rattle.sx_cli.specs.ValueLines.{values_failed, ReadsValues, StopsLines, GivesFile, StopsFile, StopsValue, PutsValue, IsTooFew};
 
 use crate::keys::MAX_LINE;
 use std::alloc::{AllocError, Global};
 use sx_edge::line::{LineFault, LineReader, Step};
 use sx_edge::shelf::Shelf;
+use sx_text::messages::ValuesFault;
 use sx_words::numbers::number_of;
-
-/// What is wrong with a values file.
-#[derive(Clone, Copy, Debug, PartialEq, Eq)]
-pub enum ValuesFault {
-    /// No file has the name.
-    NoSuchFile,
-    /// The line of this number, counted from 1, is no number of 64 bits.
-    NotANumber { line: u64 },
-    /// The line of this number is one more than there are keys.
-    MoreThanKeys { line: u64 },
-    /// There are only so many values.
-    FewerThanKeys { values: u64 },
-}
 
 /// Why no values were read.
 #[derive(Clone, Copy, Debug, PartialEq, Eq)]
@@ -90,7 +79,7 @@ fn enough(values: Vec<u64>, keys: u32) -> Result<Vec<u64>, ValuesStop>
 fn read_lines<F: Shelf>(alloc: Global, keys: u32, files: &mut F) -> Result<Vec<u64>, ValuesStop>
     requires { F.in_use files.old ≡ reading }
     ensures values { MatchResult result (λ v. ReadsValues keys (F.rest files.old) v.items) (StopsLines keys (F.rest files.old) (F.faults files.old) (F.faults files.new)) }
-    ensures later { F.faults files.old ≤ F.faults files.new }
+    ensures counts { StaysUnless (values_failed result) (F.faults files.old) (F.faults files.new) }
     ensures stays { F.in_use files.new ≡ reading }
     ensures files { KeepsFiles (F.files files.old) (F.files files.new) }
 {
@@ -125,7 +114,7 @@ pub fn read_values<F: Shelf>(
     requires { F.in_use files.old ≡ idle }
     ensures values { MatchResult result (λ v. GivesFile keys name.now (F.files files.old) v.items) (StopsFile keys name.now (F.files files.old) (F.faults files.old) (F.faults files.new)) }
     ensures files { KeepsFiles (F.files files.old) (F.files files.new) }
-    ensures later { F.faults files.old ≤ F.faults files.new }
+    ensures counts { StaysUnless (values_failed result) (F.faults files.old) (F.faults files.new) }
     ensures closed { F.in_use files.new ≡ idle }
 {
     match files.open_file(name) {

@@ -24,10 +24,12 @@ pub trait Shelf {
     /// The name of the file being written, where the shelf tells it.
     ghost writing_to: { Self → Option Text };
 
-    /// How often it has failed, up to 2^64 - 1.
+    /// How often it has failed. A call that answers `Ok` leaves the count as it was; one that answers
+    /// `Err` raises it, up to 2^64 - 1.
     ghost faults: { Self → ℕ };
 
-    /// Opens the file to be read from its start. False where no file has the name.
+    /// Opens the file to be read from its start. False where no file has the name, which is an
+    /// answer and no fault: the count stays.
     fn open_file(&mut self, name: &str) -> Result<bool, Failed>
         requires { in_use self.old ≡ idle }
         ensures found { result ≡ Ok true → (in_use self.new ≡ reading) × Opens name.now (files self.old) (rest self.new) }

@@ -1,4 +1,4 @@
-use Rattle.std.proofs.Common.{◌≡◌, ◌++◌, ◌∷◌, [], None, Some, length, ℕ, arith, sym, ap, subst, ◌∙◌, List, Option}
+use Rattle.std.proofs.Common.{refl, ◌≡◌, ◌++◌, ◌∷◌, [], None, Some, length, ℕ, arith, sym, ap, subst, ◌∙◌, List, Option}
 use Rattle.std.proofs.lemmas.List.{length-append}
 use Rattle.sx_spec.specs.declared.Limits.{Limits}
 use Rattle.sx_spec.specs.Command.{Text}
@@ -10,8 +10,8 @@ use Rattle.sx_cli.specs.declared.keys.KeysStop.{KeysStop}
 use Rattle.sx_cli.specs.declared.keys.KeysStop.TheVariants.{Refused, Failed, Memory}
 use Rattle.sx_cli.specs.Building.{RefusesLine}
 use Rattle.sx_cli.specs.KeyReading.{StopsKeys, StopsPush}
-use Rattle.sx_cli.specs.declared.messages.KeyReason.{KeyReason}
-use Rattle.sx_cli.specs.KeyLines.{reason_of, fault_of}
+use Rattle.sx_text.specs.declared.messages.KeyReason.{KeyReason}
+use Rattle.sx_text.specs.Reasons.{reason_of, fault_of}
 use Rattle.sx_cli.specs.Progress.{Progress}
 use Rattle.sx_cli.proofs.FirstFaults.{keys_grow}
 use Rattle.sx_cli.proofs.Readings.{after_line, at_end, at_fault, at_long_line, long_key, pushed_key}
@@ -37,7 +37,7 @@ pub returns-in-Err-ReadFault-clause-keys : goal.returns-in-Err-ReadFault-clause-
 returns-in-Err-ReadFault-clause-keys g c =
     let i = c.lines.invariant in
     let fails = c.in-Err-ReadFault.ensures.read_fault (cc) i.fault in
-    let later = i.later in
+    let calm = i.calm in
     record {
       keys = c.lines.keys.lines;
       behind = rw i.max at (at_fault _ _ _ c.lines.reader c.next.new.self c.lines.keys.lines i.progress fails.0);
@@ -69,7 +69,7 @@ lines-preserved g c =
       max = c.in-Ok-Line.ensures.same ∙ i.max;
       fault = c.in-Ok-Line.ensures.fault;
       few = many;
-      later = omega (arith, i.later, c.in-Ok-Line.ensures.later);
+      calm = c.in-Ok-Line.ensures.counts.calm refl ∙ i.calm;
     }
 
 stopped : (stop : KeysStop) (limits : Limits) (keys : List Text) (line : Text) (number : ℕ) (old new : Option (List ℕ)) (before after : ℕ) → limits ≡ standard_limits

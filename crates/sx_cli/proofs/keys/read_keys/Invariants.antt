@@ -13,7 +13,7 @@ invariant-lines g l = record {
   max : l.reader.max ≡ 8191;
   fault : l.reader.fault ≡ None;
   few : length l.keys.lines ≤ 4194304;
-  later : g.S.Source.faults l.initial.input ≤ g.S.Source.faults l.input;
+  calm : g.S.Source.faults l.input ≡ g.S.Source.faults l.initial.input;
 }
 
 abbrev pub decreases-lines : goal.decreases-lines

@@ -7,6 +7,7 @@ use Rattle.sx_spec.specs.World.{World}
 use Rattle.sx_spec_program.specs.Program.{func_program}
 use Rattle.sx_words.specs.Tasks.{task_of}
 use Rattle.sx_words.proofs.Offered.{plan_fits}
+use Rattle.sx_cli.proofs.Counts.{untouched}
 use Rattle.sx_cli.proofs.Endings.{same_files}
 use Rattle.sx_cli.proofs.Refusals.{words_refused, words_memory}
 use Rattle.sx_cli.proofs.run.run.Goals as goal
@@ -31,13 +32,13 @@ returns-in-Query-clause-promise g c =
 pub returns-in-Usage-clause-promise : goal.returns-in-Usage-clause-promise
 returns-in-Usage-clause-promise g c =
     as_task _ _ (c.args.steps.now - c.args.steps.now) c.refuse_words.result _ _ (ap task_of (sym c.in-Usage.is) ∙ c.in-Ok.ensures)
-    (words_refused _ _ _ (omega arith) (record { shelf = omega arith; input = omega arith; out = omega arith; err = c.refuse_words.ensures.later })
-    (record { files = same_files _; count = refl }) (record { bytes = Keeps-refl _; count = refl }) (record { bytes = Keeps-refl _; count = refl }) c.refuse_words.result c.in-Usage.rule c.refuse_words.ensures.told)
+    (words_refused _ _ _ (omega arith) c.refuse_words.result (record { shelf = untouched _ _; input = untouched _ _; out = untouched _ _; err = c.refuse_words.ensures.counts })
+    (record { files = same_files _; count = refl }) (record { bytes = Keeps-refl _; count = refl }) (record { bytes = Keeps-refl _; count = refl }) c.in-Usage.rule c.refuse_words.ensures.told)
 
 pub returns-in-Err-clause-promise : goal.returns-in-Err-clause-promise
 returns-in-Err-clause-promise g c =
-    words_memory _ _ _ (omega arith) (record { shelf = omega arith; input = omega arith; out = omega arith; err = c.tell_memory.ensures.later })
-    (record { files = same_files _; count = refl }) (record { bytes = Keeps-refl _; count = refl }) (record { bytes = Keeps-refl _; count = refl }) c.tell_memory.result _ c.tell_memory.ensures.told
+    words_memory _ _ _ (omega arith) c.tell_memory.result (record { shelf = untouched _ _; input = untouched _ _; out = untouched _ _; err = c.tell_memory.ensures.counts })
+    (record { files = same_files _; count = refl }) (record { bytes = Keeps-refl _; count = refl }) (record { bytes = Keeps-refl _; count = refl }) _ c.tell_memory.ensures.told
 
 pub returns-in-Open-clause-promise : goal.returns-in-Open-clause-promise
 returns-in-Open-clause-promise g c =

@@ -1,4 +1,4 @@
-use Rattle.std.proofs.Common.{arith, sym}
+use Rattle.std.proofs.Common.{refl, sym, ◌∙◌}
 use Rattle.sx_cli.proofs.Endings.{same_files}
 use Rattle.sx_cli.proofs.Shelves.{kept_twice}
 use Rattle.sx_cli.proofs.ValueReadings.{no_values, value_read, value_stops, long_stops, values_end}
@@ -7,7 +7,7 @@ use Rattle.sx_cli.proofs.values.read_lines.Goals as goal
 pub lines-init : goal.lines-init
 lines-init g c = record {
   reading_on = no_values c.args.keys _ c.in-Ok.reader c.in-Ok-with_capacity.values.items c.in-Ok.ensures c.in-Ok-with_capacity.ensures.items;
-  later = omega arith;
+  calm = refl;
   stays = c.requires;
   kept = same_files _;
 }
@@ -18,7 +18,7 @@ lines-preserved g c =
     record {
       reading_on = value_read c.args.keys _ _ _ c.lines.reader c.next_file.new.self c.lines.values.items i.reading_on (c.in-Ok-Line.ensures.line cc) c.line.result.now (sym c.line.ensures) c.in-Ok-Line.ensures.same c.in-Ok-Line.ensures.fault
           c.number.result c.number.ensures c.push_value.new.values.items c.in-Ok-push_value.ensures;
-      later = omega (arith, i.later, c.in-Ok-Line.ensures.later);
+      calm = c.in-Ok-Line.ensures.counts.calm refl ∙ i.calm;
       stays = c.in-Ok-Line.ensures.stays;
       kept = kept_twice _ _ _ i.kept c.in-Ok-Line.ensures.files;
     }

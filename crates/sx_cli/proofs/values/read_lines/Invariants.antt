@@ -7,7 +7,7 @@ use Rattle.sx_cli.proofs.values.read_lines.Given as goal
 abbrev pub invariant-lines : goal.invariant-lines
 invariant-lines g l = record {
   reading_on : ReadingValues l.keys (g.F.Shelf.rest l.initial.files) (g.F.Shelf.rest l.files) l.reader l.values.items;
-  later : g.F.Shelf.faults l.initial.files ≤ g.F.Shelf.faults l.files;
+  calm : g.F.Shelf.faults l.files ≡ g.F.Shelf.faults l.initial.files;
   stays : g.F.Shelf.in_use l.files ≡ reading;
   kept : KeepsFiles (g.F.Shelf.files l.initial.files) (g.F.Shelf.files l.files);
 }

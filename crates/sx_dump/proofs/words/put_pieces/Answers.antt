@@ -16,5 +16,5 @@ pieces-preserved g c =
       wrote = written_more (g.F.Shelf.writing_to c.args.files.now) (g.F.Shelf.files c.args.files.now) (g.F.Shelf.files c.pieces.files) (g.F.Shelf.files c.write_file.new.files) c.args.words.now _ c.pieces.i c.min.result (omega arith) c.min.ensures c.fill.ensures c.pieces.invariant.wrote (rw c.pieces.invariant.same at c.in-Ok.ensures.ok);
       stays = c.in-Ok.ensures.stays;
       same = c.in-Ok.ensures.same ∙ c.pieces.invariant.same;
-      later = omega (arith, c.pieces.invariant.later, c.in-Ok.ensures.cause.later);
+      calm = c.in-Ok.ensures.cause.calm ∙ c.pieces.invariant.calm;
     }
