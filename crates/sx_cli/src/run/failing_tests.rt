@@ -1,15 +1,15 @@
 //! Whole runs of which each call fails once.
 ghost use Rattle.std.specs.Prelude.{◌≡◌, ◌<◌, ◌≤◌, IfOk};
-ghost use Rattle.sx_edge.specs.InUse.{use_of};
+ghost use Rattle.sx_memory.specs.InUse.{use_of};
 ghost use Rattle.sx_edge.specs.Shelf.{idle};
 
 use super::tests::{run_once, words_of};
 use std::alloc::{AllocError, Global};
 use std::process::Abort;
 use std::test::Fail;
-use sx_edge::memory::shelf::MemShelf;
-use sx_edge::memory::sink::MemSink;
-use sx_edge::memory::source::MemSource;
+use sx_memory::shelf::MemShelf;
+use sx_memory::sink::MemSink;
+use sx_memory::source::MemSource;
 use sx_spec::Status;
 
 /// A run: its words, what input gives, and the files D and V, which aren't there where they are

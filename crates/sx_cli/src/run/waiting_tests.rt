@@ -4,11 +4,11 @@ ghost use Rattle.std.specs.Prelude.{None};
 use super::tests::{run_once, words_of};
 use std::cell::Cell;
 use std::test::Fail;
-use sx_edge::memory::shelf::MemShelf;
-use sx_edge::memory::sink::MemSink;
-use sx_edge::memory::source::MemSource;
 use sx_edge::sink::Sink;
 use sx_edge::source::{Failed, Source};
+use sx_memory::shelf::MemShelf;
+use sx_memory::sink::MemSink;
+use sx_memory::source::MemSource;
 use sx_spec::Status;
 
 /// How many line feeds stand in the bytes.
