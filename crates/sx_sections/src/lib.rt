@@ -1,0 +1,6 @@
+//! The sections of a dump of any kind: which they are, what each of them has to be, and where they stand.
+#![tactic(auto)]
+
+pub mod header;
+pub mod kinds;
+pub mod number;
