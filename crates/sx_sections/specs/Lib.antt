@@ -1,2 +1,4 @@
 pub mod Checks
 pub mod Headers
+pub mod Names
+pub mod Rules
