@@ -2,3 +2,5 @@ pub mod Checks
 pub mod Headers
 pub mod Names
 pub mod Rules
+pub mod Places
+pub mod Walks

@@ -12,9 +12,9 @@ returns-clause-table c =
     let escaped = c.short_function.ensures ∙ ap (λ (n : ℕ). short_slot Escaped n) keys in
     let prefixes = c.function-3.ensures ∙ ap (λ (n : ℕ). function_slot Prefixes n) c.bucket_count-buckets.ensures.value in
     λ i.
-        slot_as (offsets i)
-        ∷ slot_as (codes i)
-        ∷ slot_as (record { name = Table; rule = Coded })
-        ∷ slot_as (escaped i)
-        ∷ slot_as (prefixes i)
-        ∷ []
+    slot_as (offsets i)
+    ∷ slot_as (codes i)
+    ∷ slot_as (record { name = Table; rule = Coded })
+    ∷ slot_as (escaped i)
+    ∷ slot_as (prefixes i)
+    ∷ []

@@ -21,14 +21,14 @@ returns-clause-table c =
     let codes = c.function-3.ensures ∙ ap (λ (n : ℕ). function_slot Codes n) keys in
     let corrections = c.new.ensures ∙ ap (λ (n : ℕ). slot_of CorrectionsName (Corrections n)) keys in
     λ i.
-        slot_as (offsets i)
-        ∷ slot_as (extents i)
-        ∷ slot_as (firsts i)
-        ∷ slot_as (middles i)
-        ∷ slot_as (afters i)
-        ∷ slot_as (handles i)
-        ∷ slot_as (marks i)
-        ∷ slot_as (codes i)
-        ∷ slot_as (corrections i)
-        ∷ slot_as (record { name = Blocks; rule = Matching })
-        ∷ []
+    slot_as (offsets i)
+    ∷ slot_as (extents i)
+    ∷ slot_as (firsts i)
+    ∷ slot_as (middles i)
+    ∷ slot_as (afters i)
+    ∷ slot_as (handles i)
+    ∷ slot_as (marks i)
+    ∷ slot_as (codes i)
+    ∷ slot_as (corrections i)
+    ∷ slot_as (record { name = Blocks; rule = Matching })
+    ∷ []
