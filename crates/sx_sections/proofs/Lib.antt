@@ -2,3 +2,4 @@ pub mod BlockCounts
 pub mod Outcomes
 pub mod Rising
 pub mod Signatures
+pub mod Walking

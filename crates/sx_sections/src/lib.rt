@@ -11,3 +11,4 @@ pub mod number;
 pub mod place;
 pub mod rule;
 pub mod slots;
+pub mod walk;
