@@ -1,4 +1,5 @@
 pub mod BlockCounts
+pub mod Offered
 pub mod Outcomes
 pub mod Rising
 pub mod Signatures

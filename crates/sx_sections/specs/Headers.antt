@@ -14,17 +14,6 @@ header_as h = record { plan = h.plan; keys = h.keys; seed = h.seed }
 abbrev pub file_checks : List ℕ → ℕ → List (ℕ × Bool)
 file_checks words bytes = (1, bytes % 8 == 0 && is_in_range 80 (2 ^ 30) bytes) ∷ word_checks words
 
--- those of them that come after the kind's, where this is the kind
-abbrev pub plan_checks : Kind → List ℕ → List (ℕ × Bool)
-plan_checks kind words =
-    (5, nat_le (slice_index words 3) 1 && (uses_method kind || slice_index words 3 == 0))
-    ∷ (6, nat_le (slice_index words 4) u32_max)
-    ∷ (7, nat_le (slice_index words 6) 192)
-    ∷ (8, nat_le (slice_index words 7) 12 && (uses_buckets kind || slice_index words 7 == 0))
-    ∷ (9, nat_le (slice_index words 8) 64)
-    ∷ (10, nat_le (slice_index words 9) 64 && (uses_handles kind || slice_index words 9 == 0))
-    ∷ []
-
 -- the words of a header that passed its checks are in the ranges of its fields
 pub record IsHeader (words : List ℕ) : Type 0 where
   pub long : 10 ≤ length words
