@@ -1,5 +1,5 @@
 -- The checks of a header where a part of all dumps is offered.
-use Rattle.std.proofs.Common.{◌≡◌, ℕ, ◌+◌, ◌%◌, ◌^◌, Bool, true, false, List, [], ◌∷◌, length, Option, Some, None, Result, Ok, Err, ◌<◌, ◌≤◌, refl, sym, ap, subst, ◌∙◌}
+use Rattle.std.proofs.Common.{◌≡◌, ℕ, ◌%◌, ◌^◌, Bool, true, false, List, [], ◌∷◌, length, Option, Some, None, Result, Ok, Err, ◌<◌, ◌≤◌, refl, sym, ap, ◌∙◌}
 use Rattle.std.specs.Prelude.{◌==◌, ◌&&◌, ◌||◌, nat_le, slice_index, drop, flat_map}
 use Rattle.std.specs.Int.{is_in_range}
 use Rattle.std.specs.List.{AllByRecursion}
@@ -10,9 +10,9 @@ use Rattle.sx_spec.specs.Kinds.{uses_method, uses_buckets, uses_handles}
 use Rattle.sx_spec.specs.Layout.{Dump, Header, Section, dump_with, header_of, kinds as all_kinds, magic, layout, opened, section_words, sections_in, slots, u32_max}
 use Rattle.sx_spec.proofs.Reading.{all_dropped, header_back, sections_back}
 use Rattle.sx_static.proofs.FunctionSections.{all_true}
-use Rattle.sx_spec_program.specs.Offer.{Offer, offers_header, opened_by}
+use Rattle.sx_spec_program.specs.Offer.{Offer, opened_by}
 use Rattle.sx_sections.specs.Headers.{file_checks}
-use Rattle.sx_sections.specs.Offers.{checks_where, is_offered, offered_checks, plan_checks}
+use Rattle.sx_sections.specs.Offers.{checks_where, is_offered, offered_checks}
 use Rattle.sx_sections.specs.Openings.{IsFile}
 
 and_true : (a : Bool) → (a && true) ≡ a

@@ -1,8 +1,6 @@
 -- Headers as the code has them, and the checks of a file by its words and its size.
-use Rattle.std.specs.Prelude.{ℕ, ◌≤◌, Bool, ◌&&◌, ◌||◌, ◌^◌, ◌%◌, ◌==◌, nat_le, List, [], ◌∷◌, length, slice_index}
+use Rattle.std.specs.Prelude.{ℕ, ◌≤◌, Bool, ◌&&◌, ◌^◌, ◌%◌, ◌==◌, List, ◌∷◌, length, slice_index}
 use Rattle.std.specs.Int.{is_in_range}
-use Rattle.sx_spec_kinds.specs.declared.Kind.{Kind}
-use Rattle.sx_spec.specs.Kinds.{uses_method, uses_buckets, uses_handles}
 use Rattle.sx_spec.specs.Layout.{Header as HeaderOf, u32_max, word_checks}
 use Rattle.sx_sections.specs.declared.header.Header.{Header}
 
