@@ -1,5 +1,6 @@
 pub mod Checks
 pub mod Headers
+pub mod Lines
 pub mod Names
 pub mod Offers
 pub mod Openings

@@ -7,6 +7,7 @@ pub mod counts;
 pub mod fault;
 pub mod header;
 pub mod kinds;
+pub mod lines;
 pub mod name;
 pub mod number;
 pub mod open;
