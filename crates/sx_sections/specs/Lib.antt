@@ -1,6 +1,9 @@
 pub mod Checks
 pub mod Headers
+pub mod Lines
 pub mod Names
-pub mod Rules
+pub mod Offers
+pub mod Openings
 pub mod Places
+pub mod Rules
 pub mod Walks

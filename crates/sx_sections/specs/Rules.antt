@@ -1,5 +1,5 @@
 -- The rules of sections and the slots of kinds, as the code has them.
-use Rattle.std.specs.Prelude.{ℕ, ◌-◌, ◌<◌, ◌≤◌, ◌^◌, List, [], ◌∷◌, map, ⊤}
+use Rattle.std.specs.Prelude.{ℕ, ◌-◌, ◌<◌, ◌≤◌, ◌^◌, List, [], ◌∷◌, ⊤}
 use Rattle.sx_spec.specs.Layout.{Section, SectionRule as RuleOf, Slot as SlotOf, function_of, list_of, sums_of, corrections_of, section_width, section_count, last_section}
 use Rattle.sx_sections.specs.declared.name.SectionName.{SectionName}
 use Rattle.sx_sections.specs.declared.rule.Bounds.{Bounds}

@@ -19,14 +19,13 @@ fn check_function(words: &[u64], at: usize, bounds: Bounds) -> Result<Place, Che
     requires bounded { IsWithin bounds }
     ensures { IsChecked (function_of bounds.least bounds.most bounds.low bounds.high) words.now at result }
 {
-    match function_check(
-        words,
-        at,
-        bounds.least,
-        bounds.most,
-        bounds.low,
-        bounds.high,
-    ) {
+    let Bounds {
+        least,
+        most,
+        low,
+        high,
+    } = bounds;
+    match function_check(words, at, least, most, low, high) {
         Ok(section) => Ok(Place::Function(section)),
         Err(check) => Err(Check::of_number(check)),
     }
@@ -38,14 +37,13 @@ fn check_list(words: &[u64], at: usize, bounds: Bounds) -> Result<Place, Check>
     requires bounded { IsWithin bounds }
     ensures { IsChecked (list_of bounds.least bounds.most bounds.low bounds.high) words.now at result }
 {
-    match list_check(
-        words,
-        at,
-        bounds.least,
-        bounds.most,
-        bounds.low,
-        bounds.high,
-    ) {
+    let Bounds {
+        least,
+        most,
+        low,
+        high,
+    } = bounds;
+    match list_check(words, at, least, most, low, high) {
         Ok(section) => Ok(Place::List(section)),
         Err(check) => Err(Check::of_number(check)),
     }

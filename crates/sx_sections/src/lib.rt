@@ -4,10 +4,16 @@
 pub mod check;
 pub mod corrections;
 pub mod counts;
+pub mod fault;
 pub mod header;
 pub mod kinds;
+pub mod lines;
 pub mod name;
 pub mod number;
+pub mod open;
 pub mod place;
 pub mod rule;
 pub mod slots;
+#[cfg(test)]
+mod tests;
+pub mod walk;
