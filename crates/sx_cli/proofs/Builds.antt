@@ -45,7 +45,7 @@ module _ (t : BuildTask) (before after : World) (ticks : ℕ) (result : Status) 
       [] (kept_appends before.out after.out out) (inl refl) (inl files) (not_out at_input (inr rose)) (λ other e. absurd cc) tt tt counts
 
   -- a line is no key
-  pub key_refused : (fault : KeyFault) → RefusesLine before.input after.input fault 
+  pub key_refused : (fault : KeyFault) → RefusesLine before.input after.input fault
       → KeepsFiles before.files after.files → Keeps before.out after.out → Tells (key_text fault) BadInput before.err after.err before.faults.err after.faults.err result
       → Promise func_program (build t) before after ticks result
   key_refused fault refuses files out told = by_message (build t) before after ticks
@@ -69,7 +69,7 @@ module _ (t : BuildTask) (before after : World) (ticks : ℕ) (result : Status) 
 
     -- the values file is refused
     pub values_refused : (name : Text) → t.values ≡ Some name → (fault : ValuesFault) → IfSome before.files (λ files. first_values_fault (length keys) (files name) ≡ Some fault)
-        → KeepsFiles before.files after.files → Keeps before.out after.out 
+        → KeepsFiles before.files after.files → Keeps before.out after.out
         → Tells (values_text (length keys) fault) BadInput before.err after.err before.faults.err after.faults.err result → Promise func_program (build t) before after ticks result
     values_refused name named fault first_fault files out told = by_message (build t) before after ticks
         (record { status = BadInput; reading = to_end; out = []; err = values_text (length keys) fault; file = None })

@@ -18,10 +18,11 @@ use Rattle.sx_cli.specs.Building.{RefusesLine}
 use Rattle.sx_cli.specs.Progress.{ReadsAll}
 use Rattle.sx_cli.specs.Storing.{Outside, GivenEnds, Stores}
 use Rattle.sx_cli.specs.Telling.{Tells, Fails}
-use Rattle.sx_cli.specs.ValueLines.{Given, StopsGiving, values_fault_of}
+use Rattle.sx_cli.specs.ValueLines.{Given, StopsGiving}
+use Rattle.sx_text.specs.Reasons.{values_fault_of}
 use Rattle.sx_cli.specs.Writing.{SetsPart}
 use Rattle.sx_cli.specs.declared.values.ValuesStop.TheVariants.{Refused, Failed}
-use Rattle.sx_cli.specs.declared.values.ValuesFault.{ValuesFault}
+use Rattle.sx_text.specs.declared.messages.ValuesFault.{ValuesFault}
 use Rattle.sx_cli.proofs.Builds.{key_refused, build_memory, values_failed, values_refused, seeds_fail, build_done, dump_failed, line_failed}
 use Rattle.sx_cli.proofs.Shelves.{kept_twice}
 

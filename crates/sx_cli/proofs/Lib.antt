@@ -9,8 +9,6 @@ pub mod Advances
 pub mod Readings
 pub mod Shelves
 pub mod GivenBuilds
-pub mod Texts
-pub mod FailureLines
 pub mod Tries
 pub mod ValueFaults
 pub mod ValueReadings
@@ -20,3 +18,4 @@ pub mod Serves
 pub mod Opens
 pub mod Shows
 pub mod Refusals
+pub mod FileReadings

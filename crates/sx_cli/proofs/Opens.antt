@@ -15,13 +15,14 @@ use Rattle.sx_spec.specs.World.{Files}
 use Rattle.sx_spec.proofs.Reading.{passing_bytes_are_layouts}
 use Rattle.sx_spec_program.specs.Offer.{opened_by, offered_checks, offers_header}
 use Rattle.sx_spec_program.specs.Program.{func_program, func_offer, offered_fault}
-use Rattle.sx_edge.specs.Shelf.{Opens, ReadsFile}
-use Rattle.sx_cli.specs.Opening.{IsDecoded, IsFile, IsOpened, StopsAtCheck}
+use Rattle.sx_edge.specs.Shelf.{Opens}
+use Rattle.sx_cli.specs.FileWords.{IsDecoded, ReadsFile, ReadsWords}
+use Rattle.sx_cli.specs.Opening.{IsFile, IsOpened, StopsAtCheck}
 use Rattle.sx_cli.specs.Telling.{Tells}
 use Rattle.sx_spec.specs.declared.Status.{Status}
 use Rattle.sx_spec.specs.declared.Status.TheVariants.{BadDump, Memory}
 
-take_all : (xs : List ℕ) (n : ℕ) → length xs ≤ n → take n xs ≡ xs
+pub take_all : (xs : List ℕ) (n : ℕ) → length xs ≤ n → take n xs ≡ xs
 take_all [] zero le = refl
 take_all [] (suc n) le = refl
 take_all (x ∷ xs) zero le = absurd (omega arith)
@@ -34,10 +35,13 @@ pub words_count : (bytes words : List ℕ) → words ≡ bytes_words bytes → l
 words_count bytes words is = ap (λ (l : List ℕ). length l) is ∙ length-map-range_with_len (λ i. from_le_bytes w64 (take 8 (drop (8 * i) bytes))) 0 (div_ceil (length bytes) 8)
 
 -- what was read up to one byte past the most is the file's
-pub file_found : (name : Text) (files : Option Files) (rest : Option (List ℕ)) (bytes words : List ℕ) (size : ℕ) → Opens name files rest → ReadsFile (2 ^ 30) rest bytes → IsDecoded bytes words size
+pub file_found : (name : Text) (files : Option Files) (rest : Option (List ℕ)) (words : List ℕ) (size : ℕ) → Opens name files rest → ReadsWords rest words size
     → IsFile name files words size
-file_found name files rest bytes words size opens reads decoded = record { bytes = bytes; decoded = decoded; told = told files opens }
+file_found name files rest words size opens reads = record { bytes = reads.bytes; decoded = reads.decoded; told = told files opens }
   where
+    bytes : List ℕ
+    bytes = reads.bytes
+
     by_rest : (fs : Files) (r there : Option (List ℕ)) → IsSome there → r ≡ there → fs name ≡ there → ReadsFile (2 ^ 30) r bytes
         → (all : List ℕ) × (fs name ≡ Some all) × (bytes ≡ take (2 ^ 30 + 1) all)
     by_rest fs r None some e at read = absurd cc
@@ -48,7 +52,7 @@ file_found name files rest bytes words size opens reads decoded = record { bytes
 
     told : (f : Option Files) → Opens name f rest → IfSome f (λ fs. (all : List ℕ) × (fs name ≡ Some all) × (bytes ≡ take (2 ^ 30 + 1) all))
     told None o = tt
-    told (Some fs) o = by_rest fs rest (fs name) o.0 o.1 refl reads
+    told (Some fs) o = by_rest fs rest (fs name) o.0 o.1 refl reads.read
 
 -- ---- checks
 

@@ -9,7 +9,8 @@ use Rattle.sx_spec_strings.specs.First.{first as first_of}
 use Rattle.sx_spec_strings.specs.Lines.{lines}
 use Rattle.sx_edge.specs.Reading.{Reading, GivesLine, GivesEnd, IsTooLong}
 use Rattle.sx_cli.specs.Progress.{ReadsAll, StopsAt}
-use Rattle.sx_cli.specs.ValueLines.{ReadingValues, ReadsValues, StopsLines, StopsValue, PutsValue, IsTooFew, values_fault_of}
+use Rattle.sx_cli.specs.ValueLines.{ReadingValues, ReadsValues, StopsLines, StopsValue, PutsValue, IsTooFew}
+use Rattle.sx_text.specs.Reasons.{values_fault_of}
 use Rattle.sx_cli.specs.declared.values.ValuesStop.{ValuesStop}
 use Rattle.sx_cli.specs.declared.values.ValuesStop.TheVariants.{Refused, Failed, Memory}
 use Rattle.sx_cli.proofs.Advances.{starts, stops_at_last}

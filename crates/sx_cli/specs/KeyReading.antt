@@ -9,7 +9,7 @@ use Rattle.sx_bits.specs.declared.fault.KeyFault.{KeyFault}
 use Rattle.sx_cli.specs.declared.keys.KeysStop.{KeysStop}
 use Rattle.sx_cli.specs.declared.keys.KeysStop.TheVariants.{Refused, Failed, Memory}
 use Rattle.sx_cli.specs.Building.{RefusesLine}
-use Rattle.sx_cli.specs.KeyLines.{reason_of, fault_of}
+use Rattle.sx_text.specs.Reasons.{reason_of, fault_of}
 use Rattle.sx_cli.specs.Progress.{ReadsAll, FailsBehind}
 
 -- whether no key list was read since input has failed

@@ -1,5 +1,5 @@
+pub mod FileWords
 pub mod Building
-pub mod FailureTexts
 pub mod KeyLines
 pub mod KeyReading
 pub mod Opening

@@ -8,6 +8,7 @@ use Rattle.sx_spec.specs.Layout.{Dump, bytes_words, dump_bytes, Passes}
 use Rattle.sx_spec.specs.Messages.{at_dump, memory_text}
 use Rattle.sx_spec.specs.Outcomes.{dump_refusal}
 use Rattle.sx_spec_program.specs.Program.{func_program, func_offer, offered_fault}
+use Rattle.sx_cli.specs.FileWords.{IsDecoded}
 use Rattle.sx_cli.specs.Telling.{Tells, Fails}
 use Rattle.sx_spec.specs.World.{Files}
 use Rattle.sx_cli.specs.declared.dump_file.DumpFile.{DumpFile}
@@ -16,12 +17,6 @@ use Rattle.sx_cli.specs.declared.dump_file.DumpFile.{DumpFile}
 abbrev pub ends_in_fault : {T : Type 0} → Result T Status → Bool
 ends_in_fault (Err status) = is_fault status
 ends_in_fault (Ok _) = false
-
--- the words are those of bytes, and so many bytes there are
-pub record IsDecoded (bytes words : List ℕ) (size : ℕ) : Type 0 where
-  pub words_are : words ≡ bytes_words bytes
-  pub size_is : size ≡ length bytes
-  pub small : (i : ℕ) → slice_index bytes i < 256
 
 -- the words are those of the file of the name, up to one byte past the most
 pub record IsFile (name : Text) (files : Option Files) (words : List ℕ) (size : ℕ) : Type 0 where

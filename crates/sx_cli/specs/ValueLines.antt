@@ -10,26 +10,16 @@ use Rattle.sx_spec_strings.specs.First.{first}
 use Rattle.sx_spec_strings.specs.Lines.{lines}
 use Rattle.sx_edge.specs.Reading.{Reading}
 use Rattle.sx_cli.specs.Progress.{Progress}
-use Rattle.sx_cli.specs.declared.values.ValuesFault.{ValuesFault}
-use Rattle.sx_cli.specs.declared.values.ValuesFault.TheVariants.{NoSuchFile, NotANumber, MoreThanKeys, FewerThanKeys}
+use Rattle.sx_text.specs.Reasons.{values_fault_of}
+use Rattle.sx_text.specs.declared.messages.ValuesFault.{ValuesFault}
+use Rattle.sx_text.specs.declared.messages.ValuesFault.TheVariants.{NoSuchFile, NotANumber, MoreThanKeys, FewerThanKeys}
 use Rattle.sx_cli.specs.declared.values.ValuesStop.{ValuesStop}
 use Rattle.sx_cli.specs.declared.values.ValuesStop.TheVariants.{Refused, Failed, Memory}
-
--- the fault of the definitions
-abbrev pub values_fault_of : ValuesFault → SpecFault
-values_fault_of NoSuchFile = no_such_file
-values_fault_of (NotANumber line) = not_a_number line
-values_fault_of (MoreThanKeys line) = more_than_keys line
-values_fault_of (FewerThanKeys values) = fewer_than_keys values
 
 -- whether no values were read since the shelf has failed
 abbrev pub values_failed : {T : Type 0} → Result T ValuesStop → Bool
 values_failed (Err Failed) = true
 values_failed _ = false
-
--- what is told of so many values for so many keys
-abbrev pub counts_text : ℕ → ℕ → Text
-counts_text values keys = concat (codes "values: " ∷ decimal values ∷ codes " values for " ∷ decimal keys ∷ codes " keys" ∷ (10 ∷ []) ∷ [])
 
 -- the rest of the file has a value for each of so many keys, and these are the values
 pub record ReadsValues (keys : ℕ) (rest : Option (List ℕ)) (values : List ℕ) : Type 0 where

@@ -9,23 +9,24 @@ ghost use Rattle.sx_spec.specs.Run.{Promise};
 ghost use Rattle.sx_spec.specs.World.{world, KeepsFiles};
 ghost use Rattle.sx_spec_program.specs.Program.{func_program};
 ghost use Rattle.sx_cli.specs.Building.{IsPlan, build_of};
-ghost use Rattle.sx_cli.specs.KeyLines.{fault_of};
+ghost use Rattle.sx_text.specs.Reasons.{fault_of};
 ghost use Rattle.sx_cli.specs.Storing.{Stores, GivenEnds};
 ghost use Rattle.sx_cli.specs.Telling.{Tells};
-ghost use Rattle.sx_cli.specs.ValueLines.{values_failed, values_fault_of, Given, StopsGiving};
+ghost use Rattle.sx_cli.specs.ValueLines.{values_failed, Given, StopsGiving};
+ghost use Rattle.sx_text.specs.Reasons.{values_fault_of};
 
 use crate::dump::write_dump;
 use crate::keys::{KeysStop, read_keys};
-use crate::messages::{KeyReason, key_message, values_message};
 use crate::seeds::{Tried, try_seeds};
 use crate::telling::{Place, fail, tell, tell_memory};
-use crate::values::{ValuesFault, ValuesStop, ranks, read_values};
+use crate::values::{ValuesStop, ranks, read_values};
 use std::alloc::Global;
 use sx_bits::KeyList;
 use sx_edge::shelf::Shelf;
 use sx_edge::sink::{Sink, write_all};
 use sx_edge::source::Source;
 use sx_spec::Status;
+use sx_text::messages::{KeyReason, ValuesFault, key_message, values_message};
 use sx_words::BuildTask;
 
 /// Tells why a line is no key.

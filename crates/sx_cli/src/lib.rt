@@ -4,9 +4,8 @@
 mod build;
 mod dump;
 mod dump_file;
-mod failures;
+mod file_words;
 mod keys;
-pub mod messages;
 mod open;
 mod query;
 pub mod run;

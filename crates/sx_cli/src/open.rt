@@ -1,41 +1,26 @@
 //! A dump that is read from its file.
 ghost use Rattle.std.specs.Prelude.{◌≡◌, ◌≢◌, ◌≤◌, ◌⊎◌, List, ℕ, Option, Err, IfOk, OnOk, MatchResult};
-ghost use Rattle.sx_edge.specs.Shelf.{idle, file_failed};
+ghost use Rattle.sx_edge.specs.Shelf.{idle};
 ghost use Rattle.sx_spec.specs.declared.Status.TheVariants.{BadDump, Memory};
 ghost use Rattle.sx_spec.specs.Causes.{Rose, StaysUnless, is_fault};
 ghost use Rattle.sx_spec.specs.Command.{Text};
 ghost use Rattle.sx_spec.specs.Messages.{check_text, memory_text};
 ghost use Rattle.sx_spec.specs.World.{Files, KeepsFiles};
 ghost use Rattle.sx_dump.specs.Opening.{dump_in};
-ghost use Rattle.sx_cli.specs.Opening.{ends_in_fault, IsDecoded, IsFound, IsFile, IsOpened, StopsAtFile, StopsAtCheck};
+ghost use Rattle.sx_cli.specs.FileWords.{file_failed};
+ghost use Rattle.sx_cli.specs.Opening.{ends_in_fault, IsFound, IsFile, IsOpened, StopsAtFile, StopsAtCheck};
 ghost use Rattle.sx_cli.specs.Telling.{Tells};
 
 use crate::dump_file::DumpFile;
-use crate::messages::{check_message, no_dump_message};
+use crate::file_words::{ReadFault, read_words};
 use crate::telling::{Place, fail, tell, tell_memory};
 use std::alloc::Global;
-use sx_dump::{Dump, OpenFault, open_dump, words_of};
-use sx_edge::shelf::{ReadFault, Shelf, read_file};
+use sx_dump::{Dump, OpenFault, open_dump};
+use sx_edge::shelf::Shelf;
 use sx_edge::sink::Sink;
 use sx_fields::bank::Words;
 use sx_spec::Status;
-
-/// How many bytes a dump has at most.
-const MAX_BYTES: u64 = 1_073_741_824;
-
-/// The words of bytes that were read.
-fn decode(alloc: Global, bytes: &[u8]) -> Result<DumpFile, ReadFault>
-    ensures decoded { IfOk result (λ f. IsDecoded bytes.now f.words.items f.bytes) }
-    ensures memory { result ≢ Err ReadFault.Failed }
-{
-    match words_of(alloc, bytes) {
-        Ok(words) => Ok(DumpFile {
-            words,
-            bytes: bytes.len() as u64,
-        }),
-        Err(_) => Err(ReadFault::Memory),
-    }
-}
+use sx_text::messages::{check_message, no_dump_message};
 
 /// Reads the file of the name; none where no file has it. No file is left in use.
 fn read_dump<F: Shelf>(
@@ -55,16 +40,13 @@ fn read_dump<F: Shelf>(
         Ok(false) => return Ok(None),
         Err(_) => return Err(ReadFault::Failed),
     }
-    let read = read_file(alloc, files, MAX_BYTES);
+    let read = read_words(alloc, files);
     match files.close() {
         Ok(()) => {}
         Err(_) => return Err(ReadFault::Failed),
     }
     match read {
-        Ok(bytes) => match decode(alloc, &bytes) {
-            Ok(file) => Ok(Some(file)),
-            Err(fault) => Err(fault),
-        },
+        Ok(file) => Ok(Some(file)),
         Err(fault) => Err(fault),
     }
 }

@@ -11,7 +11,6 @@ ghost use Rattle.sx_spec_program.specs.Program.{func_offer, func_program};
 ghost use Rattle.sx_cli.specs.Telling.{Tells};
 
 use crate::build::build;
-use crate::messages::usage_message;
 use crate::query::query;
 use crate::show::{Wanted, show};
 use crate::telling::{tell, tell_memory};
@@ -23,6 +22,7 @@ use sx_edge::source::Source;
 use sx_edge::words::WordList;
 use sx_spec::{Rule, Status};
 use sx_steps::Steps;
+use sx_text::messages::usage_message;
 use sx_words::{Task, read_words};
 
 /// Tells which rule of usage the words break.

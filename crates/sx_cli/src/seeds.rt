@@ -4,12 +4,12 @@ ghost use Rattle.sx_spec_kinds.specs.declared.Kind.TheVariants.{Func};
 ghost use Rattle.sx_spec.specs.Messages.{no_seed_text};
 ghost use Rattle.sx_cli.specs.Building.{IsPlan, IsTried};
 
-use crate::failures::push_failure;
-use crate::messages::built_text;
 use std::alloc::{AllocError, Global};
 use sx_bits::KeyList;
 use sx_dump::{Assembled, assemble};
 use sx_spec::Plan;
+use sx_text::failures::push_failure;
+use sx_text::messages::built_text;
 
 /// What keys and values come to by the seeds.
 #[derive(Drop)]

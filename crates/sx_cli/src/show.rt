@@ -10,7 +10,6 @@ ghost use Rattle.sx_spec_program.specs.Program.{func_program};
 ghost use Rattle.sx_dump.specs.Opening.{dump_in};
 ghost use Rattle.sx_cli.specs.Showing.{Shows, wanted_task};
 
-use crate::messages::opened_text;
 use crate::open::{check_dump, find_dump};
 use crate::telling::{Place, fail, tell_memory};
 use std::alloc::Global;
@@ -19,6 +18,7 @@ use sx_edge::shelf::Shelf;
 use sx_edge::sink::{Sink, write_all};
 use sx_fields::bank::WordBank;
 use sx_spec::Status;
+use sx_text::messages::opened_text;
 
 /// Which text of a dump is wanted.
 #[derive(Clone, Copy, Debug, PartialEq, Eq)]

@@ -11,20 +11,8 @@ use crate::keys::MAX_LINE;
 use std::alloc::{AllocError, Global};
 use sx_edge::line::{LineFault, LineReader, Step};
 use sx_edge::shelf::Shelf;
+use sx_text::messages::ValuesFault;
 use sx_words::numbers::number_of;
-
-/// What is wrong with a values file.
-#[derive(Clone, Copy, Debug, PartialEq, Eq)]
-pub enum ValuesFault {
-    /// No file has the name.
-    NoSuchFile,
-    /// The line of this number, counted from 1, is no number of 64 bits.
-    NotANumber { line: u64 },
-    /// The line of this number is one more than there are keys.
-    MoreThanKeys { line: u64 },
-    /// There are only so many values.
-    FewerThanKeys { values: u64 },
-}
 
 /// Why no values were read.
 #[derive(Clone, Copy, Debug, PartialEq, Eq)]

@@ -8,3 +8,4 @@ pub mod Replies
 pub mod Showing
 pub mod Tables
 pub mod Texts
+pub mod WordPieces

@@ -66,6 +66,12 @@ opened_words words bytes = elim (first_failing (offered_file_checks words bytes)
   ]
 ]
 
+-- why words of so many bytes aren't opened: the first check that fails, or want of memory after every check.
+-- Where the bytes don't fill the last word, whatever stands in the rest of it changes nothing
+abbrev pub IsRefused : List ℕ → ℕ → OpenFault → Type 0
+IsRefused words bytes (Malformed check) = opened_words words bytes ≡ Err check
+IsRefused words bytes Memory = opened_words words bytes ≡ Ok (dump_in words)
+
 -- the dump in words whose function section was found
 abbrev pub dump_found : List ℕ → Result Section ℕ → Result Dump ℕ
 dump_found words (Ok section) = Ok (dump_in words)

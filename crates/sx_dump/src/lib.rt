@@ -11,7 +11,7 @@ pub use assembling::{Assembled, PartCause, PartFault, assemble};
 pub use dump::Dump;
 pub use open::{OpenFault, open_dump};
 pub use sx_static::Witness;
-pub use words::{put_words, words_of};
+pub use words::{push_words, put_words, words_of};
 
 #[cfg(test)]
 mod open_tests;

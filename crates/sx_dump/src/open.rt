@@ -7,7 +7,7 @@ ghost use Rattle.sx_spec.specs.Layout.{layout};
 ghost use Rattle.sx_spec_program.specs.Offer.{opened_by};
 ghost use Rattle.sx_spec_program.specs.Program.{func_offer};
 ghost use Rattle.sx_static.specs.Viewing.{IsViewed};
-ghost use Rattle.sx_dump.specs.Opening.{IsFault, IsFile, IsFuncHeader, dump_found, dump_in, func_checks, opened_words, sections_found};
+ghost use Rattle.sx_dump.specs.Opening.{IsFault, IsFile, IsFuncHeader, IsRefused, dump_found, dump_in, func_checks, opened_words, sections_found};
 
 use crate::dump::Dump;
 use std::alloc::Global;
@@ -135,10 +135,13 @@ pub fn open_dump<B: WordBank + Copy>(
 ) -> Result<Dump<B>, OpenFault>
     requires size { length words.now ≡ div_ceil bytes 8 }
     requires bank { B.words_of bank ≡ words.now }
+    ensures found { IfOk result (λ d. opened_words words.now bytes ≡ Ok (dump_in (B.words_of d.bank))) }
+    ensures refused { IfErr result (IsRefused words.now bytes) }
     ensures opened { IfOk result (λ d. (file : List ℕ) → IsFile words.now bytes file
         → opened_by func_offer file ≡ Ok (dump_in (B.words_of d.bank))) }
     ensures bank { IfOk result (λ d. d.bank ≡ bank) }
-    ensures fault { IfErr result (λ fault. (file : List ℕ) → IsFile words.now bytes file → IsFault words.now file fault) }
+    ensures fault { IfErr result (λ fault. (file : List ℕ)
+        → IsFile words.now bytes file → IsFault words.now file fault) }
 {
     match checked(words, bytes) {
         Ok(section) => Ok(Dump::new(bank, words, section.width, section.count as u32)),

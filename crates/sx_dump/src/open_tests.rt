@@ -7,8 +7,8 @@ use std::alloc::Global;
 use std::marker::Brand;
 use std::sync::ledger::{Blank, Ledger};
 use std::test::Fail;
-use sx_edge::memory::sink::MemSink;
 use sx_fields::bank::{WordBank, Words};
+use sx_memory::sink::MemSink;
 use sx_sig::Kind;
 use sx_steps::Steps;
 

@@ -152,8 +152,9 @@ fn chunk_at<B: WordBank + Copy, L: Ledger>(
     steps: &mut Steps<L>,
 ) -> (u64, u64)
     requires { i < chunk_count_of values.now.pairs }
-    ensures { slice_get (viewed (B.words_of values.now.bank) values.now.first values.now.width values.now.pairs).chunks i
+    ensures chunk { slice_get (viewed (B.words_of values.now.bank) values.now.first values.now.width values.now.pairs).chunks i
         ≡ Some (record { segment = result.0; try = result.1 }) }
+    ensures cost { steps.new ≡ steps.old + 2 }
 {
     let here = values.bank.word(values.first + i, steps);
     let next = values.bank.word(values.first + i + 1, steps);
@@ -162,7 +163,9 @@ fn chunk_at<B: WordBank + Copy, L: Ledger>(
 
 /// The cells of all chunks.
 fn cells_of<B: WordBank + Copy, L: Ledger>(values: &FuncView<B>, steps: &mut Steps<L>) -> Packed<B>
-    ensures { ⟦<Packed<B> as Fields>⟧.items result ≡ (viewed (B.words_of values.now.bank) values.now.first values.now.width values.now.pairs).cells }
+    ensures cells { ⟦<Packed<B> as Fields>⟧.items result
+        ≡ (viewed (B.words_of values.now.bank) values.now.first values.now.width values.now.pairs).cells }
+    ensures cost { steps.new ≡ steps.old + 1 }
 {
     let last = values.first + chunk_count(values.pairs);
     let count = start_of(values.bank.word(last, steps));
@@ -182,6 +185,7 @@ fn show_chunks<B: WordBank + Copy, O: Sink, L: Ledger>(
     ensures failed { OnErr result (AppendsPrefix (O.written out.old) (O.written out.new)
         (page.old.bytes ++ chunk_lines (viewed (B.words_of values.now.bank) values.now.first values.now.width values.now.pairs).chunks)) }
     ensures cause { HasCause (O.faults out.old) (O.faults out.new) result }
+    ensures counted { steps.old ≤ steps.new }
 {
     'chunks: for i in 0..chunk_count(values.pairs) {
         match make_room(page, out) {
@@ -207,6 +211,7 @@ fn show_cells<B: WordBank + Copy, O: Sink, L: Ledger>(
     ensures failed { OnErr result (AppendsPrefix (O.written out.old) (O.written out.new)
         (page.old.bytes ++ cell_lines (⟦<Packed<B> as Fields>⟧.items cells.now))) }
     ensures cause { HasCause (O.faults out.old) (O.faults out.new) result }
+    ensures counted { steps.old ≤ steps.new }
 {
     'cells: for i in 0..cells.len() {
         match make_room(page, out) {

@@ -4,8 +4,8 @@ use crate::{Assembled, PartCause, PartFault, assemble, put_words, words_of};
 use std::process::Abort;
 use std::test::Fail;
 use sx_bits::KeyList;
-use sx_edge::memory::shelf::MemShelf;
 use sx_edge::shelf::Shelf;
+use sx_memory::shelf::MemShelf;
 use sx_sig::{Kind, Method, Plan};
 use sx_spec::Limits;
 

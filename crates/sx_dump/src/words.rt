@@ -1,6 +1,6 @@
 //! Words and their bytes, the lowest byte of each word first.
 
-ghost use Rattle.std.specs.Prelude.{◌≡◌, ◌*◌, ◌^◌, ◌<◌, ◌≤◌, All, IfOk, OnOk, OnErr, length, take, drop};
+ghost use Rattle.std.specs.Prelude.{◌≡◌, ◌*◌, ◌^◌, ◌<◌, ◌≤◌, ◌++◌, All, IfOk, OnOk, OnErr, length, take, drop};
 ghost use Rattle.std.specs.Int.{to_le_bytes, from_le_bytes, w64};
 ghost use Rattle.sx_spec.specs.Causes.{HasCause};
 ghost use Rattle.sx_spec.specs.Layout.{words_bytes, bytes_words};
@@ -92,6 +92,21 @@ fn word_at(bytes: &[u8], i: usize) -> u64
     word_in(&bytes[8 * i..])
 }
 
+/// Puts the words of bytes behind those that are there, the last one filled up with zero bytes.
+///
+/// # Errors
+///
+/// Want of memory.
+pub fn push_words(words: &mut Vec<u64>, bytes: &[u8]) -> Result<(), AllocError>
+    ensures words { OnOk result (words.new.items ≡ words.old.items ++ bytes_words bytes.now) }
+    ensures small { OnOk result (All (λ w. w < 2 ^ 64) words.old.items → All (λ w. w < 2 ^ 64) words.new.items) }
+{
+    for i in 0..bytes.len().div_ceil(8) {
+        words.push(word_at(bytes, i))?;
+    }
+    Ok(())
+}
+
 /// The words of bytes, the last one filled up with zero bytes.
 ///
 /// # Errors
@@ -101,10 +116,7 @@ pub fn words_of(alloc: Global, bytes: &[u8]) -> Result<Vec<u64>, AllocError>
     ensures words { IfOk result (λ words. words.items ≡ bytes_words bytes.now) }
     ensures small { IfOk result (λ words. All (λ w. w < 2 ^ 64) words.items) }
 {
-    let count = bytes.len().div_ceil(8);
-    let mut words = Vec::with_capacity(alloc, count)?;
-    for i in 0..count {
-        words.push(word_at(bytes, i))?;
-    }
+    let mut words = Vec::with_capacity(alloc, bytes.len().div_ceil(8))?;
+    push_words(&mut words, bytes)?;
     Ok(words)
 }

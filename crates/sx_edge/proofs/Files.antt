@@ -4,16 +4,6 @@ use Rattle.sx_spec.specs.Command.{Text}
 use Rattle.sx_spec.specs.World.{Files, KeepsFiles, SetsFile}
 use Rattle.sx_edge.specs.Shelf.{AppendsFile}
 
-pub KeepsFiles-refl : (a : Option Files) → KeepsFiles a a
-KeepsFiles-refl None = tt
-KeepsFiles-refl (Some f) = λ name. refl
-
-pub KeepsFiles-trans : (a b c : Option Files) → KeepsFiles a b → KeepsFiles b c → KeepsFiles a c
-KeepsFiles-trans None b c p q = tt
-KeepsFiles-trans (Some f) None c p q = absurd p
-KeepsFiles-trans (Some f) (Some g) None p q = absurd q
-KeepsFiles-trans (Some f) (Some g) (Some h) p q = λ name. q name ∙ p name
-
 pub SetsFile-kept : (name : Text) (bytes : List ℕ) (a b c : Option Files) → SetsFile name bytes a b → KeepsFiles b c → SetsFile name bytes a c
 SetsFile-kept name bytes None b c p q = tt
 SetsFile-kept name bytes (Some f) None c p q = absurd p

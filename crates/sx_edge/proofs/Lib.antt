@@ -5,5 +5,3 @@ pub mod Feeds
 pub mod Fills
 pub mod Readies
 pub mod LineLaws
-pub mod Parts
-pub mod EntryLaws

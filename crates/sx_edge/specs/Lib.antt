@@ -3,7 +3,4 @@ pub mod Shelf
 pub mod Reading
 pub mod Places
 pub mod Buffer
-pub mod Calls
-pub mod Memory
-pub mod Entries
-pub mod InUse
+pub mod Kept

@@ -1,11 +1,15 @@
-//! The lines of a source.
+//! The lines of a source and of a file.
 ghost use Rattle.std.specs.Prelude.{◌≡◌, ◌≢◌, ◌+◌, ◌-◌, ◌^◌, ◌<◌, ◌≤◌, ℕ, IfOk, OnErr, OnOk, length, take, drop, vec_len};
 ghost use Rattle.sx_spec.specs.Causes.{HasCause, Rose, StaysUnless};
 ghost use Rattle.std.specs.Io.KnownBytes.{Keeps};
+ghost use Rattle.sx_spec.specs.World.{KeepsFiles};
 ghost use Rattle.sx_edge.specs.Places.{IsFeedPlace, TakesBehind};
+ghost use Rattle.sx_edge.specs.Shelf.{reading};
 
-mod file;
+pub(crate) mod feed;
 
+use crate::line::feed::{Feed, FromFile, FromSource};
+use crate::shelf::Shelf;
 use crate::source::{Failed, Source};
 use memchr::memchr;
 use std::alloc::{AllocError, Global};
@@ -143,10 +147,59 @@ impl LineReader {
         ensures number { self.new.number ≤ self.old.number + 1 }
         ensures counts { StaysUnless (read_failed result) (S.faults src.old) (S.faults src.new) }
     {
+        self.next_from::<FromSource, S>(src)
+    }
+
+    /// As `next`, on the file being read, whose shelf counts the faults.
+    pub fn next_file<F: Shelf>(&mut self, files: &mut F) -> Result<Step, LineFault>
+        requires number { self.old.number < 2 ^ 64 - 1 }
+        requires reading { F.in_use files.old ≡ reading }
+        ensures line { result ≡ Ok Step.Line → GivesLine self.old self.new (F.rest files.old) (F.rest files.new) }
+        ensures end { result ≡ Ok Step.End → GivesEnd self.old self.new (F.rest files.old) (F.rest files.new) }
+        ensures read_fault { result ≡ Err ReadFault → self.old.fault ≡ None
+            → FailsRead self.old self.new (F.rest files.old) (F.rest files.new) × Rose (F.faults files.old) (F.faults files.new) }
+        ensures too_long { (n : ℕ) → result ≡ Err (TooLong n) → self.old.fault ≡ None
+            → IsTooLong self.old self.new (F.rest files.old) (F.rest files.new) n }
+        ensures again { IfSome self.old.fault (λ fault. (result ≡ Err fault) × (self.new ≡ self.old)
+            × ReadsNothing (F.rest files.old) (F.rest files.new) (F.faults files.old) (F.faults files.new)) }
+        ensures fault { MatchResult result (λ _. self.new.fault ≡ None) (λ fault. self.new.fault ≡ Some fault) }
+        ensures ready { is_ready self.old ≡ true → ReadsNothing (F.rest files.old) (F.rest files.new) (F.faults files.old) (F.faults files.new) }
+        ensures same { self.new.max ≡ self.old.max }
+        ensures number { self.new.number ≤ self.old.number + 1 }
+        ensures counts { StaysUnless (read_failed result) (F.faults files.old) (F.faults files.new) }
+        ensures stays { F.in_use files.new ≡ reading }
+        ensures files { KeepsFiles (F.files files.old) (F.files files.new) }
+    {
+        self.next_from::<FromFile, F>(files)
+    }
+
+    // Goes on to the next line, by reads of this kind.
+    fn next_from<P: Feed<T>, T>(&mut self, from: &mut T) -> Result<Step, LineFault>
+        requires number { self.old.number < 2 ^ 64 - 1 }
+        requires may_read { P.may_read from.old }
+        ensures line { result ≡ Ok Step.Line
+            → GivesLine self.old self.new (P.left from.old) (P.left from.new) }
+        ensures end { result ≡ Ok Step.End
+            → GivesEnd self.old self.new (P.left from.old) (P.left from.new) }
+        ensures read_fault { result ≡ Err ReadFault → self.old.fault ≡ None
+            → FailsRead self.old self.new (P.left from.old) (P.left from.new) × Rose (P.faults from.old) (P.faults from.new) }
+        ensures too_long { (n : ℕ) → result ≡ Err (TooLong n) → self.old.fault ≡ None
+            → IsTooLong self.old self.new (P.left from.old) (P.left from.new) n }
+        ensures again { IfSome self.old.fault (λ fault. (result ≡ Err fault) × (self.new ≡ self.old)
+            × ReadsNothing (P.left from.old) (P.left from.new) (P.faults from.old) (P.faults from.new)) }
+        ensures fault { MatchResult result (λ _. self.new.fault ≡ None) (λ fault. self.new.fault ≡ Some fault) }
+        ensures ready { is_ready self.old ≡ true
+            → ReadsNothing (P.left from.old) (P.left from.new) (P.faults from.old) (P.faults from.new) }
+        ensures same { self.new.max ≡ self.old.max }
+        ensures number { self.new.number ≤ self.old.number + 1 }
+        ensures counts { StaysUnless (read_failed result) (P.faults from.old) (P.faults from.new) }
+        ensures stays { P.may_read from.new }
+        ensures keeps { P.keeps from.old from.new }
+    {
         if let Some(fault) = self.fault {
             return Err(fault);
         }
-        match self.fill_line(src) {
+        match self.fill_line::<P, T>(from) {
             Ok(()) => self.cut(),
             Err(Failed) => {
                 self.fault = Some(LineFault::ReadFault);
@@ -156,17 +209,21 @@ impl LineReader {
     }
 
     // Reads until the next line can be told.
-    fn fill_line<S: Source>(&mut self, src: &mut S) -> Result<(), Failed>
-        requires { self.old.fault ≡ None }
-        ensures takes { Takes self.old self.new (S.left src.old) (S.left src.new) [] }
+    fn fill_line<P: Feed<T>, T>(&mut self, from: &mut T) -> Result<(), Failed>
+        requires fault { self.old.fault ≡ None }
+        requires may_read { P.may_read from.old }
+        ensures takes { Takes self.old self.new (P.left from.old) (P.left from.new) [] }
         ensures ok { OnOk result (is_ready self.new ≡ true) }
         ensures failed { OnErr result (Waits self.new) }
-        ensures ready { is_ready self.old ≡ true → OnErr result ⊥ × ReadsNothing (S.left src.old) (S.left src.new) (S.faults src.old) (S.faults src.new) }
+        ensures ready { is_ready self.old ≡ true
+            → OnErr result ⊥ × ReadsNothing (P.left from.old) (P.left from.new) (P.faults from.old) (P.faults from.new) }
         ensures same { SameBut self.old self.new }
-        ensures cause { HasCause (S.faults src.old) (S.faults src.new) result }
+        ensures cause { HasCause (P.faults from.old) (P.faults from.new) result }
+        ensures stays { P.may_read from.new }
+        ensures keeps { P.keeps from.old from.new }
     {
         'reads: while !self.has_line() {
-            match self.fill(src) {
+            match self.fill::<P, T>(from) {
                 Ok(()) => {}
                 Err(Failed) => return Err(Failed),
             }
@@ -174,20 +231,23 @@ impl LineReader {
         Ok(())
     }
 
-    // Reads once from the source.
-    fn fill<S: Source>(&mut self, src: &mut S) -> Result<(), Failed>
-        requires { is_ready self.old ≡ false }
-        ensures bytes { OnOk result (Fills self.old self.new (S.left src.old) (S.left src.new)) }
-        ensures failed { OnErr result (Keeps (S.left src.old) (S.left src.new) × (self.new.held ≡ self.old.held) × (self.new.ended ≡ self.old.ended)) }
+    // Reads once.
+    fn fill<P: Feed<T>, T>(&mut self, from: &mut T) -> Result<(), Failed>
+        requires ready { is_ready self.old ≡ false }
+        requires may_read { P.may_read from.old }
+        ensures bytes { OnOk result (Fills self.old self.new (P.left from.old) (P.left from.new)) }
+        ensures failed { OnErr result (Keeps (P.left from.old) (P.left from.new) × (self.new.held ≡ self.old.held) × (self.new.ended ≡ self.old.ended)) }
         ensures same { SameBut self.old self.new }
-        ensures cause { HasCause (S.faults src.old) (S.faults src.new) result }
+        ensures cause { HasCause (P.faults from.old) (P.faults from.new) result }
+        ensures stays { P.may_read from.new }
+        ensures keeps { P.keeps from.old from.new }
     {
         self.given = false;
         self.buf.copy_within(self.start..self.end, 0);
         self.end -= self.start;
         self.start = 0;
         self.feed = self.end;
-        let count = read_behind(src, &mut self.buf, self.end)?;
+        let count = read_behind::<P, T>(from, &mut self.buf, self.end)?;
         self.ended = count == 0;
         self.feed = feed_place(&self.buf, self.end, self.end + count);
         self.end += count;
@@ -251,12 +311,15 @@ fn feed_place(buf: &[u8], start: usize, end: usize) -> usize
 }
 
 // Reads once into what follows the first `len` bytes of the buffer.
-fn read_behind<S: Source>(src: &mut S, buf: &mut [u8], len: usize) -> Result<usize, Failed>
-    requires { len < length buf.old }
-    ensures took { IfOk result (λ count. TakesBehind (S.left src.old) (S.left src.new) buf.old buf.new len count) }
-    ensures failed { OnErr result (Keeps (S.left src.old) (S.left src.new)) }
+pub(crate) fn read_behind<P: Feed<T>, T>(from: &mut T, buf: &mut [u8], len: usize) -> Result<usize, Failed>
+    requires room { len < length buf.old }
+    requires may_read { P.may_read from.old }
+    ensures took { IfOk result (λ count. TakesBehind (P.left from.old) (P.left from.new) buf.old buf.new len count) }
+    ensures failed { OnErr result (Keeps (P.left from.old) (P.left from.new)) }
     ensures front { take len buf.new ≡ take len buf.old }
-    ensures cause { HasCause (S.faults src.old) (S.faults src.new) result }
+    ensures cause { HasCause (P.faults from.old) (P.faults from.new) result }
+    ensures stays { P.may_read from.new }
+    ensures keeps { P.keeps from.old from.new }
 {
-    src.read(&mut buf[len..])
+    P::read(from, &mut buf[len..])
 }

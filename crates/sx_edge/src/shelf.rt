@@ -1,14 +1,15 @@
 //! A shelf of files by name, of which at most one is in use, with a count of its faults.
-ghost use Rattle.std.specs.Prelude.{◌≡◌, ◌≢◌, ◌+◌, ◌^◌, ◌<◌, ◌≤◌, ◌⊎◌, List, [], ℕ, Bool, true, false, Option, Some, Ok, Err, length, take, vec_len, IfOk, OnOk, OnErr, IsSome};
+ghost use Rattle.std.specs.Prelude.{◌≡◌, ◌≢◌, ◌+◌, ◌^◌, ◌<◌, ◌≤◌, ◌⊎◌, List, [], ℕ, Bool, true, false, Option, Some, Ok, Err, length, take, IfOk, OnOk, OnErr, IsSome};
 ghost use Rattle.std.specs.Io.{ReadsAtMost};
-ghost use Rattle.std.specs.Io.KnownBytes.{ReadConsumes};
-ghost use Rattle.sx_spec.specs.Causes.{HasCause, Rose, StaysUnless};
+ghost use Rattle.std.specs.Io.KnownBytes.{Consumes, IsAtEnd, ReadConsumes};
+ghost use Rattle.sx_spec.specs.Causes.{HasCause};
 ghost use Rattle.sx_spec.specs.Command.{Text};
 ghost use Rattle.sx_spec.specs.World.{Files, KeepsFiles, SetsFile};
-ghost use Rattle.sx_edge.specs.Shelf.{Use, idle, reading, writing, Opens, IsAbsent, AppendsFile, AppendsFilePrefix, ReadsFile, TakesPiece, file_failed};
+ghost use Rattle.sx_edge.specs.Shelf.{Use, idle, reading, writing, Opens, IsAbsent, AppendsFile, AppendsFilePrefix};
 
+use crate::line::feed::FromFile;
+use crate::line::read_behind;
 use crate::source::Failed;
-use std::alloc::{AllocError, Global};
 
 /// Files of the outside. At most one is in use, to be read or to be written.
 pub trait Shelf {
@@ -24,10 +25,12 @@ pub trait Shelf {
     /// The name of the file being written, where the shelf tells it.
     ghost writing_to: { Self → Option Text };
 
-    /// How often it has failed, up to 2^64 - 1.
+    /// How often it has failed. A call that answers `Ok` leaves the count as it was; one that answers
+    /// `Err` raises it, up to 2^64 - 1.
     ghost faults: { Self → ℕ };
 
-    /// Opens the file to be read from its start. False where no file has the name.
+    /// Opens the file to be read from its start. False where no file has the name, which is an
+    /// answer and no fault: the count stays.
     fn open_file(&mut self, name: &str) -> Result<bool, Failed>
         requires { in_use self.old ≡ idle }
         ensures found { result ≡ Ok true → (in_use self.new ≡ reading) × Opens name.now (files self.old) (rest self.new) }
@@ -94,80 +97,25 @@ pub fn write_file<F: Shelf>(files: &mut F, bytes: &[u8]) -> Result<(), Failed>
     Ok(())
 }
 
-/// Why a file was not read.
-#[derive(Clone, Copy, Debug, PartialEq, Eq)]
-pub enum ReadFault {
-    /// The shelf has failed.
-    Failed,
-    /// There is no memory for the bytes.
-    Memory,
-}
-
-impl From<AllocError> for ReadFault {
-    ghost use Rattle.std.specs.Prelude.{◌≡◌};
-    ghost use Rattle.sx_edge.specs.declared.shelf.ReadFault.TheVariants.{Memory};
-
-    ghost from_gives = { λ _ e. e ≡ Memory };
-
-    fn from(_: AllocError) -> ReadFault {
-        ReadFault::Memory
-    }
-}
-
-// The bytes of one read.
-const PIECE: usize = 65536;
-
-// Room for one read.
-fn piece_room(alloc: Global) -> Result<Vec<u8>, AllocError>
-    ensures { IfOk result (λ piece. vec_len piece ≡ PIECE) }
-{
-    vec![in alloc; 0u8; PIECE]
-}
-
-/// Reads the rest of the file being read, and no more than `max + 1` bytes: a result of more than
-/// `max` bytes tells that there are more.
-pub fn read_file<F: Shelf>(alloc: Global, files: &mut F, max: u64) -> Result<Vec<u8>, ReadFault>
-    requires reading { F.in_use files.old ≡ reading }
-    requires max { max ≤ 2 ^ 30 }
-    ensures bytes { IfOk result (λ bytes. ReadsFile max (F.rest files.old) bytes.items) }
-    ensures bound { IfOk result (λ bytes. length bytes.items ≤ max + 1) }
+/// Fills the buffer from the file being read as far as the file goes, and gives the number of
+/// bytes. They are fewer than the buffer has only where the file has no more.
+pub fn fill_buffer<F: Shelf>(files: &mut F, buf: &mut [u8]) -> Result<usize, Failed>
+    requires { F.in_use files.old ≡ reading }
+    ensures bound { IfOk result (λ count. count ≤ length buf.new) }
+    ensures taken { IfOk result (λ count.
+        Consumes (F.rest files.old) (F.rest files.new) (take count buf.new)) }
+    ensures end { IfOk result (λ count. count < length buf.new → IsAtEnd (F.rest files.new)) }
     ensures stays { F.in_use files.new ≡ reading }
     ensures files { KeepsFiles (F.files files.old) (F.files files.new) }
-    ensures failed { result ≡ Err ReadFault.Failed → Rose (F.faults files.old) (F.faults files.new) }
-    ensures counts { StaysUnless (file_failed result) (F.faults files.old) (F.faults files.new) }
+    ensures cause { HasCause (F.faults files.old) (F.faults files.new) result }
 {
-    let mut bytes = Vec::new(alloc);
-    let mut piece = piece_room(alloc)?;
-    'pieces: while bytes.len() as u64 <= max {
-        let room = max + 1 - bytes.len() as u64;
-        let part = &mut piece[..room.min(PIECE as u64) as usize];
-        if read_piece(files, &mut bytes, part)? == 0 {
-            return Ok(bytes);
+    let mut len = 0;
+    'reads: while len < buf.len() {
+        match read_behind::<FromFile, F>(files, buf, len) {
+            Ok(0) => return Ok(len),
+            Ok(count) => len += count,
+            Err(Failed) => return Err(Failed),
         }
     }
-    Ok(bytes)
-}
-
-// Reads once, and puts the bytes that came behind those that are there. Gives their number.
-fn read_piece<F: Shelf>(
-    files: &mut F,
-    bytes: &mut Vec<u8>,
-    part: &mut [u8],
-) -> Result<usize, ReadFault>
-    requires reading { F.in_use files.old ≡ reading }
-    requires room { 0 < length part.old }
-    ensures took { IfOk result (λ count. TakesPiece (F.rest files.old) (F.rest files.new) bytes.old.items bytes.new.items count) }
-    ensures bound { IfOk result (λ count. count ≤ length part.old) }
-    ensures stays { F.in_use files.new ≡ reading }
-    ensures files { KeepsFiles (F.files files.old) (F.files files.new) }
-    ensures failed { result ≡ Err ReadFault.Failed → Rose (F.faults files.old) (F.faults files.new) }
-    ensures counts { StaysUnless (file_failed result) (F.faults files.old) (F.faults files.new) }
-{
-    match files.read(part) {
-        Ok(count) => {
-            bytes.extend_from_slice(&part[..count])?;
-            Ok(count)
-        }
-        Err(Failed) => Err(ReadFault::Failed),
-    }
+    Ok(len)
 }

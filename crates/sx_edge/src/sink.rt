@@ -11,7 +11,8 @@ pub trait Sink {
     /// The bytes written, where the sink tells them.
     ghost written: { Self → Option (List ℕ) };
 
-    /// How often it has failed, up to 2^64 - 1.
+    /// How often it has failed. A call that answers `Ok` leaves the count as it was; one that answers
+    /// `Err` raises it, up to 2^64 - 1.
     ghost faults: { Self → ℕ };
 
     /// Writes the first bytes of `buf`, at least one, and gives their number.

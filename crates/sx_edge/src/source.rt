@@ -13,7 +13,8 @@ pub trait Source {
     /// The bytes that are left, where the source tells them.
     ghost left: { Self → Option (List ℕ) };
 
-    /// How often it has failed, up to 2^64 - 1.
+    /// How often it has failed. A call that answers `Ok` leaves the count as it was; one that answers
+    /// `Err` raises it, up to 2^64 - 1.
     ghost faults: { Self → ℕ };
 
     /// Takes the first bytes that are left, at most as many as `buf` has, and gives their number.

@@ -91,6 +91,7 @@ impl<B: WordBank + Copy> EliasFano<B> {
     fn number<L: Ledger>(&self, i: usize, steps: &mut Steps<L>) -> u64
         requires { i < length (⟦<EliasFano<B> as Fields>⟧.items self.now) }
         ensures value { result ≡ slice_index (⟦<EliasFano<B> as Fields>⟧.items self.now) i }
+        ensures counted { steps.old < steps.new }
         ensures cost { steps.new ≤ steps.old + 38 }
     {
         let high = self.upper.select(i as u64, steps) - i as u64;
@@ -102,6 +103,7 @@ impl<B: WordBank + Copy> EliasFano<B> {
         requires { i + 1 < length (⟦<EliasFano<B> as Fields>⟧.items self.now) }
         ensures first { result.0 ≡ slice_index (⟦<EliasFano<B> as Fields>⟧.items self.now) i }
         ensures second { result.1 ≡ slice_index (⟦<EliasFano<B> as Fields>⟧.items self.now) (i + 1) }
+        ensures counted { steps.old < steps.new }
         ensures cost { steps.new ≤ steps.old + 76 }
     {
         (self.number(i, steps), self.number(i + 1, steps))

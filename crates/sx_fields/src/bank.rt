@@ -72,13 +72,6 @@ impl WordsBuf {
     {
         WordsBuf { words }
     }
-
-    /// The words as a slice.
-    pub fn as_slice(&self) -> &[u64]
-        ensures { result.now ≡ self.now.words.items }
-    {
-        self.words.as_slice()
-    }
 }
 
 impl WordBank for WordsBuf {
@@ -89,8 +82,7 @@ impl WordBank for WordsBuf {
     }
 
     fn word<L: Ledger>(&self, i: usize, steps: &mut Steps<L>) -> u64 {
-        steps.tick();
-        self.words[i]
+        Words::new(&self.words).word(i, steps)
     }
 }
 

@@ -30,6 +30,7 @@ pub trait Fields {
     fn get<L: Ledger>(&self, i: usize, steps: &mut Steps<L>) -> u64
         requires { i < length (items self.now) }
         ensures value { result ≡ slice_index (items self.now) i }
+        ensures counted { steps.old ≤ steps.new }
         ensures cost { steps.new ≤ steps.old + ticks self.now };
 }
 

@@ -49,6 +49,7 @@ pub(crate) fn ones_below<B: WordBank, L: Ledger>(
     requires small { All (λ w. w < 2 ^ 64) (B.words_of bank.now) }
     requires long { length (B.words_of bank.now) < 2 ^ 64 }
     ensures ones { result ≡ rank_of pos (number_at first (B.words_of bank.now)) }
+    ensures counted { steps.old ≤ steps.new }
     ensures cost { steps.new ≤ steps.old + 8 }
 {
     let whole = (pos / 64) as usize;
@@ -83,6 +84,7 @@ pub(crate) fn select_between<B: WordBank, L: Ledger>(
     requires long { length (B.words_of bank.now) < 2 ^ 64 }
     ensures one { bit_at (number_at first (B.words_of bank.now)) result ≡ 1 }
     ensures below { rank_of result (number_at first (B.words_of bank.now)) ≡ k }
+    ensures counted { steps.old < steps.new }
     ensures cost { steps.new ≤ steps.old + 8 }
 {
     for word in from..to {

@@ -39,7 +39,10 @@ fn block_counts<B: WordBank, L: Ledger>(
     requires within { first + words_for bits ≤ length (B.words_of bank.now) }
     requires small { All (λ w. w < 2 ^ 64) (B.words_of bank.now) }
     requires long { length (B.words_of bank.now) < 2 ^ 64 }
-    ensures { IfOk result (λ v. v.items ≡ directory_of bits (number_at first (B.words_of bank.now))) }
+    ensures counts { IfOk result (λ v. v.items
+        ≡ directory_of bits (number_at first (B.words_of bank.now))) }
+    ensures counted { steps.old ≤ steps.new }
+    ensures cost { IfOk result (λ _. steps.new ≡ steps.old + 8 * (bits / 512)) }
 {
     let blocks = (bits / 512) as usize;
     let mut counts = Vec::with_capacity(alloc, blocks + 1)?;
@@ -109,6 +112,7 @@ impl<B: WordBank + Copy> RankSel<B> {
     pub fn rank<L: Ledger>(&self, pos: u64, steps: &mut Steps<L>) -> u64
         requires { pos ≤ self.now.bits }
         ensures rank { result ≡ rank_of pos (number_at self.now.first (B.words_of self.now.bank)) }
+        ensures counted { steps.old < steps.new }
         ensures cost { steps.new ≤ steps.old + 10 }
     {
         let before = self.directory.word((pos / 512) as usize, steps);
@@ -119,6 +123,7 @@ impl<B: WordBank + Copy> RankSel<B> {
     pub fn select<L: Ledger>(&self, k: u64, steps: &mut Steps<L>) -> u64
         requires { k < rank_of self.now.bits (number_at self.now.first (B.words_of self.now.bank)) }
         ensures place { result ≡ slice_index (ones_of self.now.bits (number_at self.now.first (B.words_of self.now.bank))) k }
+        ensures counted { steps.old < steps.new }
         ensures cost { steps.new ≤ steps.old + 36 }
     {
         let block = block_at(&self.directory, k, steps);

@@ -1,1 +1,3 @@
 pub mod ReplyTexts
+pub mod Texts
+pub mod FailureLines

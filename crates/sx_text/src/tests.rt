@@ -1,7 +1,7 @@
 //! A buffer of text.
 use crate::buffer::TextBuffer;
 use std::test::Fail;
-use sx_edge::memory::sink::MemSink;
+use sx_memory::sink::MemSink;
 
 #[test]
 fn replies_are_written_in_decimal(rt: HostRuntime) -> Result<(), Fail> {

@@ -1,6 +1,6 @@
 //! Whole runs over files and streams in memory.
 ghost use Rattle.std.specs.Prelude.{◌≡◌, ◌<◌, IfOk};
-ghost use Rattle.sx_edge.specs.InUse.{use_of};
+ghost use Rattle.sx_memory.specs.InUse.{use_of};
 ghost use Rattle.sx_edge.specs.Shelf.{idle};
 
 use super::*;
@@ -9,9 +9,9 @@ use std::marker::Brand;
 use std::process::Abort;
 use std::sync::ledger::Blank;
 use std::test::Fail;
-use sx_edge::memory::shelf::MemShelf;
-use sx_edge::memory::sink::MemSink;
-use sx_edge::memory::source::MemSource;
+use sx_memory::shelf::MemShelf;
+use sx_memory::sink::MemSink;
+use sx_memory::source::MemSource;
 
 fn run_counted<L: Ledger>(
     alloc: Global,

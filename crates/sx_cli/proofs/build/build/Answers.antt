@@ -1,7 +1,7 @@
 use Rattle.std.proofs.Common.{refl}
 use Rattle.std.proofs.KnownBytes.{Keeps-refl}
 use Rattle.sx_cli.specs.Building.{build_of}
-use Rattle.sx_cli.specs.KeyLines.{fault_of}
+use Rattle.sx_text.specs.Reasons.{fault_of}
 use Rattle.sx_cli.proofs.Builds.{keys_failed, build_memory}
 use Rattle.sx_cli.proofs.Counts.{untouched, answered, faulted, chained}
 use Rattle.sx_cli.proofs.Endings.{same_files}

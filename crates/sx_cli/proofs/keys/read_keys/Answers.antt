@@ -10,8 +10,8 @@ use Rattle.sx_cli.specs.declared.keys.KeysStop.{KeysStop}
 use Rattle.sx_cli.specs.declared.keys.KeysStop.TheVariants.{Refused, Failed, Memory}
 use Rattle.sx_cli.specs.Building.{RefusesLine}
 use Rattle.sx_cli.specs.KeyReading.{StopsKeys, StopsPush}
-use Rattle.sx_cli.specs.declared.messages.KeyReason.{KeyReason}
-use Rattle.sx_cli.specs.KeyLines.{reason_of, fault_of}
+use Rattle.sx_text.specs.declared.messages.KeyReason.{KeyReason}
+use Rattle.sx_text.specs.Reasons.{reason_of, fault_of}
 use Rattle.sx_cli.specs.Progress.{Progress}
 use Rattle.sx_cli.proofs.FirstFaults.{keys_grow}
 use Rattle.sx_cli.proofs.Readings.{after_line, at_end, at_fault, at_long_line, long_key, pushed_key}

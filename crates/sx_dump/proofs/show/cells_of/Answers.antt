@@ -26,8 +26,8 @@ new-requires-clause-within g c =
     c.start_of-count.ensures ∙ ap table_start (c.word.ensures.word ∙ ap (λ n. slice_index words (v.first + n)) c.chunk_count.ensures.value) ∙ cells_count words v.first v.width v.pairs v.stands in
     rw (count, c.chunk_count.ensures.value) v.stands.within
 
-pub returns : goal.returns
-returns g c =
+pub returns-clause-cells : goal.returns-clause-cells
+returns-clause-cells g c =
     let v = c.args.values.now in
     let words = g.B.WordBank.words_of v.bank in
     let count : c.start_of-count.result ≡ table_cells (table_at words v.first v.pairs) =

@@ -13,8 +13,8 @@ overflow_sub-result g c =
     let start : c.start_of-2.result ≡ table_start (slice_index words (v.first + c.args.i)) = c.start_of-2.ensures ∙ ap table_start c.word-here.ensures.word in
     omega (arith, up, end, start)
 
-pub returns : goal.returns
-returns g c =
+pub returns-clause-chunk : goal.returns-clause-chunk
+returns-clause-chunk g c =
     let v = c.args.values.now in
     let words = g.B.WordBank.words_of v.bank in
     chunk_is words v.first v.width v.pairs v.stands c.args.i c.requires _ c.start_of-2.result c.start_of.result _

@@ -1,4 +1,4 @@
-use Rattle.std.proofs.Common.{arith, drop, ◌∙◌}
+use Rattle.std.proofs.Common.{◌∙◌, arith, drop}
 use Rattle.sx_spec.specs.Fields.{fields}
 use Rattle.sx_dump.specs.Showing.{cell_line}
 use Rattle.sx_dump.proofs.Showing.{read_at, turn_cut, turn_shown, turns_shown}
@@ -12,6 +12,7 @@ cells-preserved g c =
       shown = turn_shown (λ p. cell_line p.0 p.1) c.args.page.now.bytes items c.cells.i (g.O.Sink.written c.args.out.now) (g.O.Sink.written c.cells.out) (g.O.Sink.written c.make_room.new.out) c.read.result
           c.cells.page.bytes c.make_room.new.page.bytes c.put_cell.new.page.bytes c.cells.invariant.shown c.in-Ok.ensures.ok c.put_cell.ensures (read_at items c.cells.i c.read.result (omega arith) c.read.ensures.value);
       calm = c.in-Ok.ensures.cause.calm ∙ c.cells.invariant.calm;
+      counted = omega (arith, c.cells.invariant.counted, c.read.ensures.counted);
     }
 
 pub returns-in-Err-clause-failed : goal.returns-in-Err-clause-failed

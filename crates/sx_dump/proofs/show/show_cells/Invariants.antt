@@ -1,4 +1,4 @@
-use Rattle.std.proofs.Common.{◌≡◌, ◌++◌, take, drop}
+use Rattle.std.proofs.Common.{◌≡◌, ◌≤◌, ◌++◌, take, drop}
 use Rattle.sx_spec.specs.Fields.{fields}
 use Rattle.sx_dump.specs.Showing.{IsShown, cell_lines}
 use Rattle.sx_dump.proofs.show.show_cells.Given as goal
@@ -9,4 +9,5 @@ invariant-cells g l = record {
       (l.initial.page.bytes ++ cell_lines (take l.i (fields l.cells.width l.cells.len (drop l.cells.first (g.B.WordBank.words_of l.cells.bank)))))
       l.page.bytes;
   calm : g.O.Sink.faults l.out ≡ g.O.Sink.faults l.initial.out;
+  counted : l.initial.steps ≤ l.steps;
 }

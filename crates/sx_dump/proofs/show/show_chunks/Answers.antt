@@ -1,4 +1,4 @@
-use Rattle.std.proofs.Common.{arith, ◌∙◌}
+use Rattle.std.proofs.Common.{◌∙◌, arith}
 use Rattle.sx_spec.specs.StaticFunction.{Chunk}
 use Rattle.sx_static.specs.Viewing.{viewed}
 use Rattle.sx_dump.specs.Showing.{chunk_line}
@@ -13,8 +13,9 @@ chunks-preserved g c =
     let chunk : Chunk = record { segment = c.chunk_at-segment.result.0; try = c.chunk_at-segment.result.1 } in
     record {
       shown = turn_shown (λ p. chunk_line p.0 p.1) c.args.page.now.bytes chunks c.chunks.i (g.O.Sink.written c.args.out.now) (g.O.Sink.written c.chunks.out) (g.O.Sink.written c.make_room.new.out) chunk
-          c.chunks.page.bytes c.make_room.new.page.bytes c.put_chunk.new.page.bytes c.chunks.invariant.shown c.in-Ok.ensures.ok c.put_chunk.ensures c.chunk_at-segment.ensures;
+          c.chunks.page.bytes c.make_room.new.page.bytes c.put_chunk.new.page.bytes c.chunks.invariant.shown c.in-Ok.ensures.ok c.put_chunk.ensures c.chunk_at-segment.ensures.chunk;
       calm = c.in-Ok.ensures.cause.calm ∙ c.chunks.invariant.calm;
+      counted = omega (arith, c.chunks.invariant.counted, c.chunk_at-segment.ensures.cost);
     }
 
 pub returns-in-Err-clause-failed : goal.returns-in-Err-clause-failed

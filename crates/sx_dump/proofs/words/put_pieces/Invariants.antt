@@ -1,4 +1,4 @@
-use Rattle.std.proofs.Common.{◌≡◌, ◌*◌, ◌≤◌, take}
+use Rattle.std.proofs.Common.{◌≡◌, ◌*◌, take}
 use Rattle.sx_spec.specs.Layout.{words_bytes}
 use Rattle.sx_edge.specs.Shelf.{writing, AppendsFile}
 use Rattle.sx_dump.proofs.words.put_pieces.Given as goal

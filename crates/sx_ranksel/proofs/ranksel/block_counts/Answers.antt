@@ -22,4 +22,8 @@ loop-block-preserved g c =
     let ones : c.loop-block.ones + c.ones_between-ones.result ≡ rank_of (512 * (n + 1)) x = omega (arith, c.loop-block.invariant.ones, c.ones_between-ones.ensures.ones) in
     let counts : c.push-in-loop-block.new.self.items ≡ map (λ block. rank_of (512 * block) x) (range_with_len 0 (n + 1 + 1)) =
     c.in_ok-push-2.ensures.items ∙ (λ i. c.loop-block.invariant.counts i ++ ones i ∷ []) ∙ sym more in
-    record { counts = counts; ones = ones }
+    record {
+      counts = counts;
+      ones = ones;
+      cost = omega (arith, c.loop-block.invariant.cost, c.ones_between-ones.ensures.cost);
+    }

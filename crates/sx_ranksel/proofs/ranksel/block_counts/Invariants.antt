@@ -9,4 +9,5 @@ invariant-loop-block g l =
     record {
       counts : l.counts.items ≡ map (λ block. rank_of (512 * block) x) (range_with_len 0 (l.block + 1));
       ones : l.ones ≡ rank_of (512 * l.block) x;
+      cost : l.steps ≡ l.initial.steps + 8 * l.block;
     }

@@ -10,7 +10,7 @@ use Rattle.sx_edge.proofs.line.LineReader.fill.Goals as goal
 pub invariant_of-self-2 : goal.invariant_of-self-2
 invariant_of-self-2 g c =
     let held : c.args.self.now.held ≡ bytes_between c.self.inside.buf.items c.self.inside.start c.self.inside.end = search rules in
-    let free : HasNoFeed (bytes_between c.self.inside.buf.items c.self.inside.start c.self.inside.end) = rw held at (waits c.args.self.now c.requires).no_feed in
+    let free : HasNoFeed (bytes_between c.self.inside.buf.items c.self.inside.start c.self.inside.end) = rw held at (waits c.args.self.now c.requires.ready).no_feed in
     let size : length c.read_behind.new.buf ≡ c.copy_within.new.self.len = omega (arith, c.read_behind.auto.buf, c.deref_mut.ensures.len) in
     let back : (with_items c.copy_within.new.self c.read_behind.new.buf).items ≡ c.read_behind.new.buf = with_items_is c.copy_within.new.self _ size in
     let took = c.in_ok-count.ensures.took in

@@ -1,14 +1,16 @@
-use Rattle.std.proofs.Common.{◌≡◌, ◌≤◌, ◌+◌, ◌-◌, length, None, [], true, cond}
+use Rattle.std.proofs.Common.{◌≡◌, ◌+◌, ◌-◌, length, None, [], true, cond}
 use Rattle.sx_edge.specs.Reading.{Takes, SameBut, ReadsNothing, is_ready}
 use Rattle.sx_edge.proofs.line.LineReader.fill_line.Given as goal
 
 abbrev pub invariant-reads : goal.invariant-reads
 invariant-reads g l = record {
-  takes : Takes l.initial.self l.self (g.S.Source.left l.initial.src) (g.S.Source.left l.src) [];
+  takes : Takes l.initial.self l.self (g.P.Feed.left l.initial.from) (g.P.Feed.left l.from) [];
   same : SameBut l.initial.self l.self;
   none : l.initial.self.fault ≡ None;
-  ready : is_ready l.initial.self ≡ true → (l.self ≡ l.initial.self) × ReadsNothing (g.S.Source.left l.initial.src) (g.S.Source.left l.src) (g.S.Source.faults l.initial.src) (g.S.Source.faults l.src);
-  calm : g.S.Source.faults l.src ≡ g.S.Source.faults l.initial.src;
+  ready : is_ready l.initial.self ≡ true → (l.self ≡ l.initial.self) × ReadsNothing (g.P.Feed.left l.initial.from) (g.P.Feed.left l.from) (g.P.Feed.faults l.initial.from) (g.P.Feed.faults l.from);
+  calm : g.P.Feed.faults l.from ≡ g.P.Feed.faults l.initial.from;
+  stays : g.P.Feed.may_read l.from;
+  keeps : g.P.Feed.keeps l.initial.from l.from;
 }
 
 abbrev pub decreases-reads : goal.decreases-reads

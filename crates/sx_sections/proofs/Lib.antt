@@ -1,0 +1,4 @@
+pub mod BlockCounts
+pub mod Outcomes
+pub mod Rising
+pub mod Signatures

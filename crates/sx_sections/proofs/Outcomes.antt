@@ -1,0 +1,12 @@
+-- What a section's check comes to, by its first check that fails.
+use Rattle.std.proofs.Common.{◌≡◌, ℕ, Option, Some, None, Result, Ok, Err, sym, ap}
+
+-- what stands where no check fails, or the first that does
+abbrev pub outcome : {A : Type 0} → A → Option ℕ → Result A ℕ
+outcome x (Some check) = Err check
+outcome x None = Ok x
+
+-- an error tells the first check that fails
+pub one_failed : {A : Type 0} (x : A) (check : ℕ) (o : Option ℕ) → Err check ≡ outcome x o → o ≡ Some check
+one_failed x check (Some other) e = let same : check ≡ other = cc in ap (λ (n : ℕ). Some n) (sym same)
+one_failed x check None e = absurd cc
