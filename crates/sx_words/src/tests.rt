@@ -81,6 +81,32 @@ fn refused_words(rt: HostRuntime) -> Result<(), Fail> {
     Ok(())
 }
 
+#[test]
+fn a_lone_dash_is_refused_in_every_place(rt: HostRuntime) -> Result<(), Fail> {
+    let alloc = rt.alloc();
+    for line in ["-", "- D", "frob -", "trial -"] {
+        assert_eq!(rt; rule(alloc, line)?, Some(Rule::UnknownCommand), "{line}");
+    }
+    for line in [
+        "query -",
+        "query D -",
+        "open -",
+        "dump -",
+        "build -",
+        "build - D",
+        "build tree -",
+        "build func D -",
+        "build func D - 3",
+        "build func - --seeds 1",
+        "build func D --seeds -",
+        "build func D --values -",
+        "build func D --method=-",
+    ] {
+        assert_eq!(rt; rule(alloc, line)?, Some(Rule::BadWords), "{line}");
+    }
+    Ok(())
+}
+
 /// Checks a build of the dump D.
 fn check_build<R: Abort>(
     rt: &R,

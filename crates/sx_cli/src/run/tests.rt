@@ -13,12 +13,12 @@ use sx_memory::shelf::MemShelf;
 use sx_memory::sink::MemSink;
 use sx_memory::source::MemSource;
 
-fn run_counted<L: Ledger>(
+fn run_counted<L: Ledger, S: Source, O: Sink>(
     alloc: Global,
     words: &WordList,
     files: &mut MemShelf,
-    input: &mut MemSource,
-    out: &mut MemSink,
+    input: &mut S,
+    out: &mut O,
     err: &mut MemSink,
     blank: Blank,
 ) -> Status
@@ -32,22 +32,23 @@ fn run_counted<L: Ledger>(
     run(alloc, words, files, input, out, err, &mut steps)
 }
 
-fn run_once(
+/// Runs the words over these objects.
+pub(super) fn run_once<S: Source, O: Sink>(
     alloc: Global,
     words: &WordList,
     files: &mut MemShelf,
-    input: &mut MemSource,
-    out: &mut MemSink,
+    input: &mut S,
+    out: &mut O,
     err: &mut MemSink,
 ) -> Status
     requires idle { use_of files.old.used ≡ idle }
     ensures closed { use_of files.new.used ≡ idle }
 {
-    run_counted::<Brand>(alloc, words, files, input, out, err, Blank::new(1))
+    run_counted::<Brand, S, O>(alloc, words, files, input, out, err, Blank::new(1))
 }
 
 /// The words of a command line, which stand between spaces.
-fn words_of(alloc: Global, line: &str) -> Result<WordList, AllocError> {
+pub(super) fn words_of(alloc: Global, line: &str) -> Result<WordList, AllocError> {
     let mut words = WordList::new(alloc);
     for word in line.split(' ') {
         words.push(word)?;
