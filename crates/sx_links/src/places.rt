@@ -1,4 +1,4 @@
-// Places of seats, and links from one to another.
+//! Places of seats, and links from one to another.
 
 ghost use Rattle.std.specs.Prelude.{◌≡◌, ◌<◌, ℕ, IfOk, None, Some, length, replicate};
 ghost use Rattle.sx_links.specs.Chains.{first_without, linked, place_of};

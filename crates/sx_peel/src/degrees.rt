@@ -1,4 +1,4 @@
-// The number of edges on each vertex.
+//! The number of edges on each vertex.
 
 ghost use Rattle.std.specs.Prelude.{◌≡◌, ◌+◌, ◌<◌, ◌≤◌, ◌*◌, ◌^◌, ℕ, All, IfOk, MatchOption, length, slice_index, cond};
 ghost use Rattle.std.specs.List.{AllByRecursion};

@@ -1,4 +1,4 @@
-// Rounds over the edges that are left: one with a vertex of its own is taken, the others are kept for the next round.
+//! Rounds over the edges that are left: one with a vertex of its own is taken, the others are kept for the next round.
 
 ghost use Rattle.std.specs.Prelude.{◌≡◌, ◌+◌, ◌*◌, ◌<◌, ◌≤◌, ◌^◌, ◌∷◌, ◌++◌, cond, ℕ, All, IfOk, IsTrue, OnOk, [], drop, length, slice_index, MatchBool, vec_len, ◌↔◌};
 ghost use Rattle.std.specs.List.{AllByRecursion, range_with_len};

@@ -1,4 +1,4 @@
-// Lists of bits, in words of 64.
+//! Lists of bits, in words of 64.
 
 ghost use Rattle.std.specs.Prelude.{◌≡◌, ◌≢◌, ◌+◌, ◌*◌, ◌/◌, ◌%◌, ◌<◌, ◌^◌, ◌==◌, ℕ, IfOk, MatchOption, bit_xor, length, slice_index};
 ghost use Rattle.sx_solve.specs.Rows.{bit};

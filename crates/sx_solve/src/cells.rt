@@ -1,4 +1,4 @@
-// The numbers of the unknowns, from the last row to the first.
+//! The numbers of the unknowns, from the last row to the first.
 
 ghost use Rattle.std.specs.Prelude.{◌≡◌, ◌*◌, ◌/◌, ◌<◌, ◌^◌, ℕ, All, IfOk, length, replicate};
 ghost use Rattle.sx_solve.specs.Rows.{AreSteps, Meets, bit, xor_by};

@@ -1,4 +1,4 @@
-// What is proved of the definitions alone.
+//! What is proved of the definitions alone.
 
 ghost use Rattle.sx_solve.specs.Law.{SystemsSolveOrHaveSum};
 

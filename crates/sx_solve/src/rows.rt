@@ -1,4 +1,4 @@
-// Rows are made of equations and reduced by the rows before them, until each has a pivot that no later row has.
+//! Rows are made of equations and reduced by the rows before them, until each has a pivot that no later row has.
 
 ghost use Rattle.std.specs.Prelude.{◌≡◌, ◌≢◌, ◌+◌, ◌*◌, ◌/◌, ◌%◌, ◌<◌, ◌≤◌, ◌^◌, ◌==◌, ◌++◌, ◌∷◌, [], cond, ℕ, All, OnOk, IfOk, List, MatchOption, Some, bit_xor, filter, length, slice_get};
 ghost use Rattle.std.specs.List.{range_with_len};

@@ -1,4 +1,4 @@
-// The definitions that the contracts of the other crates cite, and the plain types they speak of.
+//! The definitions that the contracts of the other crates cite, and the plain types they speak of.
 #![tactic(auto)]
 
 ghost use Rattle.std.specs.Prelude.{◌≡◌};

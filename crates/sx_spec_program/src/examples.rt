@@ -1,4 +1,4 @@
-// Worked examples of the definitions. Each function's contract is that they hold; it does nothing.
+//! Worked examples of the definitions. Each function's contract is that they hold; it does nothing.
 
 ghost use Rattle.sx_spec_program.specs.Examples.{OpenExamples, WordExamples};
 

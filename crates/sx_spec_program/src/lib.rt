@@ -1,4 +1,4 @@
-// What a program promises that offers a part of the whole.
+//! What a program promises that offers a part of the whole.
 #![tactic(auto)]
 
 pub mod examples;

@@ -1,4 +1,4 @@
-// Cells whose xor at the places of each edge is its value.
+//! Cells whose xor at the places of each edge is its value.
 
 ghost use Rattle.std.specs.Prelude.{◌≡◌, ◌≢◌, ◌<◌, ◌≤◌, ◌^◌, ℕ, All, IfOk, length, replicate, slice_index};
 ghost use Rattle.sx_spec.specs.Systems.{cells_at};

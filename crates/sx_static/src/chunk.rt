@@ -1,4 +1,4 @@
-// The tries at one chunk, until one works.
+//! The tries at one chunk, until one works.
 
 ghost use Rattle.std.specs.Prelude.{◌≡◌, ◌<◌, ◌≤◌, ◌^◌, All, IfOk, length, map, slice_index};
 ghost use Rattle.sx_spec.specs.Chunks.{segment as segment_of};

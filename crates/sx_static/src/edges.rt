@@ -1,4 +1,4 @@
-// The edges and the equations of signatures at a try.
+//! The edges and the equations of signatures at a try.
 
 ghost use Rattle.std.specs.Prelude.{◌≡◌, ◌*◌, ◌<◌, ◌≤◌, ◌^◌, All, IfOk, length, map};
 ghost use Rattle.sx_spec.specs.Chunks.{places};

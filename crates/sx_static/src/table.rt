@@ -1,4 +1,4 @@
-// The chunks one after another: their table, and their cells in a row.
+//! The chunks one after another: their table, and their cells in a row.
 
 ghost use Rattle.std.specs.Prelude.{◌≡◌, ◌+◌, ◌*◌, ◌<◌, ◌≤◌, ◌^◌, ℕ, All, IfOk, length, map, take, sum_by, ◌++◌};
 ghost use Rattle.std.specs.List.{range_with_len};

@@ -1,4 +1,4 @@
-// One try at the pairs of a chunk.
+//! One try at the pairs of a chunk.
 
 ghost use Rattle.std.specs.Prelude.{◌≡◌, ◌<◌, ◌≤◌, ◌^◌, IfOk, length};
 ghost use Rattle.sx_spec.specs.declared.Method.TheVariants.{Mwhc, Gov3};
