@@ -54,6 +54,7 @@ module _ (words : List ℕ) (at most : ℕ) where
         record {
           passes = by_order ∙ ap (λ (b : Bool). if b then None else Some 17) good;
           section = ap corrections_section list_is;
+          begins = refl;
           after = omega arith;
           within = omega arith;
           stands = record { few = omega arith; size = refl; within = omega arith; rising = sym is ∙ good };

@@ -19,9 +19,9 @@ use Rattle.sx_sections.specs.declared.rule.SectionRule.TheVariants.{Function as 
 use Rattle.sx_sections.specs.declared.rule.Slot.{Slot}
 use Rattle.sx_sections.specs.declared.rule.SlotRule.{SlotRule}
 use Rattle.sx_sections.specs.declared.rule.SlotRule.TheVariants.{Always, Coded, Matching}
-use Rattle.sx_sections.specs.Places.{IsFound, Stands, place_after, place_count, place_width, section_at}
+use Rattle.sx_sections.specs.Places.{IsFound, Stands, front_size, place_after, place_body, place_count, place_width, section_at}
 use Rattle.sx_sections.specs.Rules.{AreBounded, IsBoundedAfter, greatest_width, rule_after, rule_as, slot_as}
-use Rattle.sx_sections.specs.Walks.{AreFoundSoFar}
+use Rattle.sx_sections.specs.Walks.{AreFoundSoFar, AreInRow}
 
 -- ---- what a place says of its section
 
@@ -105,6 +105,10 @@ all_pushed : (words : List ℕ) (places : List Place) (p : Place) → AllByRecur
 all_pushed words [] p all stands = (stands, tt)
 all_pushed words (q ∷ places) p all stands = (all.0, all_pushed words places p all.1 stands)
 
+row_pushed : (from at : ℕ) (places : List Place) (p : Place) → AreInRow from places at → place_body p ≡ at + front_size p → AreInRow from (places ++ p ∷ []) (place_after p)
+row_pushed from at [] p row begins = (begins ∙ ap (λ n. n + front_size p) (sym row), refl)
+row_pushed from at (q ∷ places) p row begins = (row.0, row_pushed (place_after q) at places p row.1 begins)
+
 module _ (h : Header) (words : List ℕ) (places : List Place) (s : Slot) (left : List Slot) (at width count : ℕ) (so_far : AreFoundSoFar h words places (s ∷ left) at width count) (rule : SectionRule)
     (follows : (before : List Section) → section_width (last_section before) ≡ width → section_count (last_section before) ≡ count → rule_as rule ≡ rule_after s.rule before) where
   abbrev before : List Section
@@ -138,6 +142,7 @@ module _ (h : Header) (words : List ℕ) (places : List Place) (s : Slot) (left 
             ∙ (λ i. sections_in (map slot_as left) (before ++ found.section i ∷ []) (drop-drop (section_size (rule_as rule) (drop at words)) at words i))
             ∙ (λ i. sections_in (map slot_as left) (pushed i) (drop (sym found.after i) words));
         stand = all_pushed words places p so_far.stand found.stands;
+        row = row_pushed 10 at places p so_far.row found.begins;
         within = found.within;
         width_is = ap section_width last ∙ width_of words p;
         count_is = ap section_count last ∙ count_of words p found.stands;

@@ -1,8 +1,13 @@
--- The lines of a section's text.
+-- The lines of a dump's text.
 use Rattle.std.specs.Prelude.{ℕ, List, [], ◌∷◌, decimal, codes}
 use Rattle.sx_spec.specs.declared.Signature.{Signature}
-use Rattle.sx_spec.specs.Show.{line_of}
+use Rattle.sx_spec.specs.Layout.{Header}
+use Rattle.sx_spec.specs.Show.{header_text, line_of}
 use Rattle.sx_spec.specs.StaticFunction.{Chunk}
+
+-- two words
+unfoldable pub words_line : (first second : List ℕ) → List ℕ
+words_line first second = line_of (first ∷ second ∷ [])
 
 -- a word and a number
 unfoldable pub number_line : List ℕ → ℕ → List ℕ
@@ -32,3 +37,7 @@ sums_line name count below = line_of (codes "sums" ∷ name ∷ codes "count" �
 -- a signature
 unfoldable pub correction_line : ℕ → Signature → List ℕ
 correction_line i sig = line_of (codes "correction" ∷ decimal i ∷ decimal sig.w0 ∷ decimal sig.w1 ∷ decimal sig.w2 ∷ [])
+
+-- the lines of a header
+unfoldable pub header_lines : Header → List ℕ
+header_lines h = header_text h

@@ -51,6 +51,20 @@ place_after (ListPlace s) = s.after
 place_after (Sums s) = s.after
 place_after (Corrections s) = s.after
 
+-- its first word after those that say how many entries it has and how wide they are
+abbrev pub place_body : Place → ℕ
+place_body (Function s) = s.body
+place_body (ListPlace s) = s.body
+place_body (Sums s) = s.body
+place_body (Corrections s) = s.body
+
+-- how many words say so
+abbrev pub front_size : Place → ℕ
+front_size (Function s) = 2
+front_size (ListPlace s) = 2
+front_size (Sums s) = 2
+front_size (Corrections s) = 1
+
 -- how many entries it has
 abbrev pub place_count : Place → ℕ
 place_count (Function s) = s.count
@@ -101,6 +115,7 @@ Stands words (Corrections s) = IsCorrected words s
 pub record IsFound (rule : SectionRule) (words : List ℕ) (at : ℕ) (place : Place) : Type 0 where
   pub passes : first_failing (section_checks rule (drop at words)) ≡ None
   pub section : section_of rule (drop at words) ≡ section_at words place
+  pub begins : place_body place ≡ at + front_size place
   pub after : place_after place ≡ at + section_size rule (drop at words)
   pub within : place_after place ≤ length words
   pub stands : Stands words place

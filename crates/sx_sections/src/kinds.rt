@@ -1,7 +1,7 @@
-//! Kinds and methods: their codes, and what a kind uses.
+//! Kinds and methods: their codes and words, and what a kind uses.
 
-ghost use Rattle.std.specs.Prelude.{◌≡◌, slice_get};
-ghost use Rattle.sx_spec.specs.Kinds as uses;
+ghost use Rattle.std.specs.Prelude.{◌≡◌, ◌≤◌, length, slice_get};
+ghost use Rattle.sx_spec.specs.Kinds as kinds;
 ghost use Rattle.sx_spec.specs.Layout as codes;
 
 use sx_spec::{Kind, Method};
@@ -58,21 +58,47 @@ pub fn method_of(code: u64) -> Option<Method>
 
 /// Whether the kind has functions, which are built by a method.
 pub fn uses_method(kind: Kind) -> bool
-    ensures { result ≡ uses.uses_method kind }
+    ensures { result ≡ kinds.uses_method kind }
 {
     !matches!(kind, Kind::Hollow)
 }
 
 /// Whether the kind puts its keys into blocks.
 pub fn uses_buckets(kind: Kind) -> bool
-    ensures { result ≡ uses.uses_buckets kind }
+    ensures { result ≡ kinds.uses_buckets kind }
 {
     !matches!(kind, Kind::Func | Kind::Hollow)
 }
 
 /// Whether the kind keeps handles.
 pub fn uses_handles(kind: Kind) -> bool
-    ensures { result ≡ uses.uses_handles kind }
+    ensures { result ≡ kinds.uses_handles kind }
 {
     matches!(kind, Kind::Zfast)
+}
+
+/// The word for a kind.
+pub fn kind_text(kind: Kind) -> &'static str
+    ensures word { result.now ≡ kinds.kind_word kind }
+    ensures short { length result.now ≤ 10 }
+{
+    match kind {
+        Kind::Func => "func",
+        Kind::Lcp => "lcp",
+        Kind::Lcp2 => "lcp2",
+        Kind::Hollow => "hollow",
+        Kind::HollowDist => "hollowdist",
+        Kind::Zfast => "zfast",
+    }
+}
+
+/// The word for a method.
+pub fn method_text(method: Method) -> &'static str
+    ensures word { result.now ≡ kinds.method_word method }
+    ensures short { length result.now ≤ 4 }
+{
+    match method {
+        Method::Mwhc => "mwhc",
+        Method::Gov3 => "gov3",
+    }
 }

@@ -1,9 +1,12 @@
-//! The lines of a section's text, put on a page that has room for them.
+//! The lines of a dump's text, put on a page that has room for them.
 
 ghost use Rattle.std.specs.Prelude.{◌≡◌, ◌+◌, ◌≤◌, ◌++◌, decimal, length};
+ghost use Rattle.sx_sections.specs.Headers.{header_as};
 ghost use Rattle.sx_sections.specs.Lines as lines;
 ghost use Rattle.sx_sections.specs.Names.{name_text};
 
+use crate::header::Header;
+use crate::kinds::{kind_text, method_text};
 use crate::name::SectionName;
 use arrayvec::ArrayString;
 use itoa::Buffer;
@@ -30,16 +33,50 @@ fn put_number(page: &mut Page, label: &str, number: u64)
     page.push_str(buffer.format(number));
 }
 
+/// Puts two words of at most 32 bytes.
+#[tactic(auto, unfolding(crate::specs::Lines::words_line))]
+fn put_words(page: &mut Page, first: &str, second: &str)
+    requires room { length page.old.bytes + 256 ≤ 4096 }
+    requires first { length first.now ≤ 32 }
+    requires second { length second.now ≤ 32 }
+    ensures text { page.new.bytes ≡ page.old.bytes ++ lines.words_line first.now second.now }
+    ensures short { length page.new.bytes ≤ length page.old.bytes + 66 }
+{
+    page.push_str(first);
+    page.push_str(" ");
+    page.push_str(second);
+    page.push_str("\n");
+}
+
 /// Puts a word of at most 32 bytes and a number.
 #[tactic(auto, unfolding(crate::specs::Lines::number_line))]
 pub fn put_number_line(page: &mut Page, word: &str, number: u64)
     requires room { length page.old.bytes + 256 ≤ 4096 }
     requires short { length word.now ≤ 32 }
-    ensures { page.new.bytes ≡ page.old.bytes ++ lines.number_line word.now number }
+    ensures text { page.new.bytes ≡ page.old.bytes ++ lines.number_line word.now number }
+    ensures short { length page.new.bytes ≤ length page.old.bytes + 66 }
 {
     page.push_str(word);
     put_number(page, " ", number);
     page.push_str("\n");
+}
+
+/// Puts the nine lines of a header.
+pub fn put_header(page: &mut Page, header: &Header)
+    requires { length page.old.bytes + 1024 ≤ 4096 }
+    ensures text { page.new.bytes ≡ page.old.bytes ++ lines.header_lines (header_as header.now) }
+    ensures short { length page.new.bytes ≤ length page.old.bytes + 1024 }
+{
+    let plan = &header.plan;
+    put_words(page, "layout", "1");
+    put_words(page, "kind", kind_text(plan.kind));
+    put_words(page, "method", method_text(plan.method));
+    put_number_line(page, "keys", u64::from(header.keys));
+    put_number_line(page, "seed", header.seed);
+    put_number_line(page, "sig-bits", u64::from(plan.sig_bits));
+    put_number_line(page, "log-bucket", u64::from(plan.log_bucket));
+    put_number_line(page, "signed", u64::from(plan.signed));
+    put_number_line(page, "handle-bits", u64::from(plan.handle_bits));
 }
 
 /// Puts entry `i` of a section: a word of at most 32 bytes, its place and a number.

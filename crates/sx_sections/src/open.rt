@@ -8,6 +8,7 @@ ghost use Rattle.sx_spec_program.specs.Offer.{Offer, opened_by};
 ghost use Rattle.sx_sections.specs.Headers.{IsBounded, header_as};
 ghost use Rattle.sx_sections.specs.Openings.{IsFile, dump_as, dump_in};
 ghost use Rattle.sx_sections.specs.Places.{Stands};
+ghost use Rattle.sx_sections.specs.Walks.{AreInRow};
 
 use crate::fault::{header_fault, offered_fault};
 use crate::header::{Header, read_header};
@@ -34,6 +35,7 @@ pub fn open_words(words: &[u64], bytes: u64) -> Result<Opened, Check>
     ensures opened { (file : List ℕ) → IsFile words.now bytes file → opened file ≡ dump_as words.now result }
     ensures laid { IfOk result (λ o. layout (dump_in words.now o) ≡ words.now) }
     ensures stand { IfOk result (λ o. AllByRecursion (Stands words.now) o.places.items) }
+    ensures row { IfOk result (λ o. AreInRow 10 o.places.items (length words.now)) }
     ensures bounded { IfOk result (λ o. IsBounded (header_as o.header)) }
 {
     match header_fault(words, bytes) {
@@ -58,6 +60,7 @@ pub fn open_offered(words: &[u64], bytes: u64, kinds: &[Kind], signed: u32) -> R
         → (file : List ℕ) → IsFile words.now bytes file → opened_by offer file ≡ dump_as words.now result }
     ensures laid { IfOk result (λ o. layout (dump_in words.now o) ≡ words.now) }
     ensures stand { IfOk result (λ o. AllByRecursion (Stands words.now) o.places.items) }
+    ensures row { IfOk result (λ o. AreInRow 10 o.places.items (length words.now)) }
     ensures bounded { IfOk result (λ o. IsBounded (header_as o.header)) }
 {
     match offered_fault(words, bytes, kinds, signed) {
