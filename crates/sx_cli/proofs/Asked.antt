@@ -10,7 +10,7 @@ use Rattle.sx_spec.specs.Messages.{long_query_text, many_queries_text}
 use Rattle.sx_spec.specs.Outcomes.{IsStored}
 use Rattle.sx_spec.specs.Run.{Promise}
 use Rattle.sx_spec.specs.World.{World, CountsStay, KeepsFiles, KeepsInput}
-use Rattle.sx_spec_program.specs.Program.{func_program}
+use Rattle.sx_spec_program.specs.Program.{sux_program}
 use Rattle.sx_cli.specs.declared.serve.Served.{Served}
 use Rattle.sx_cli.specs.declared.serve.Served.TheVariants.{Done, TooLong, TooMany, InputFailed, OutputFailed}
 use Rattle.sx_cli.specs.Serving.{Streams, ServedTo, Ends}
@@ -20,7 +20,7 @@ use Rattle.sx_cli.proofs.Queries.{file_failed, dump_refused, query_memory, query
 use Rattle.sx_cli.specs.Opening.{IsOpened, StopsAtFile, StopsAtCheck}
 use Rattle.std.specs.Io.KnownBytes.{Keeps}
 
-module _ (name : Text) (before after : World) (ticks : ℕ) (result : Status) (counts : CountsStay (is_fault result) before after) (d : Dump) (stored : IsStored func_program name before d) where
+module _ (name : Text) (before after : World) (ticks : ℕ) (result : Status) (counts : CountsStay (is_fault result) before after) (d : Dump) (stored : IsStored sux_program name before d) where
   abbrev old : Streams
   old = record { input = before.input; out = before.out; input_faults = before.faults.input; out_faults = before.faults.out }
 
@@ -29,7 +29,7 @@ module _ (name : Text) (before after : World) (ticks : ℕ) (result : Status) (c
 
   -- what the lines came to is as much of what is due as could be done
   pub served_ends : (served : Served) → ServedTo d old new ticks served → KeepsFiles before.files after.files → Ends served before.err after.err before.faults.err after.faults.err result
-      → Promise func_program (query name) before after ticks result
+      → Promise sux_program (query name) before after ticks result
   served_ends Done all files e = query_done name before after ticks result counts d stored all.lines all.all all.answered files e.err e.is
   served_ends (TooLong line) long files e =
       line_refused name before after ticks result counts d stored long.lines (long_query_text (length long.lines + 1)) (λ l. 8191 < length l) long.stops long.answered
@@ -45,16 +45,16 @@ module _ (name : Text) (before after : World) (ticks : ℕ) (result : Status) (c
 
 module _ (name : Text) (before after : World) (ticks : ℕ) (result : Status) (counts : CountsStay (is_fault result) before after) (none : ticks ≡ 0) (files : KeepsFiles before.files after.files) (input : KeepsInput before after) (out : Keeps before.out after.out) where
   -- the file isn't there, or couldn't be read
-  pub file_stops : StopsAtFile name before.files before.faults.shelf after.faults.shelf before.err after.err before.faults.err after.faults.err result → Promise func_program (query name) before after ticks result
+  pub file_stops : StopsAtFile name before.files before.faults.shelf after.faults.shelf before.err after.err before.faults.err after.faults.err result → Promise sux_program (query name) before after ticks result
   file_stops (inl r) = dump_refused name before after ticks result counts none r.reason r.first_reason files input out r.told
   file_stops (inr (inl (rose, told))) = file_failed name before after ticks result counts none rose files out told
   file_stops (inr (inr told)) = query_memory name before after ticks result counts none files input out told
 
   -- the file is no dump
-  pub check_stops : StopsAtCheck name before.files before.err after.err before.faults.err after.faults.err result → Promise func_program (query name) before after ticks result
+  pub check_stops : StopsAtCheck name before.files before.err after.err before.faults.err after.faults.err result → Promise sux_program (query name) before after ticks result
   check_stops (inl r) = dump_refused name before after ticks result counts none r.reason r.first_reason files input out r.told
   check_stops (inr told) = query_memory name before after ticks result counts none files input out told
 
 -- the file that was opened is stored
-pub stored_of : (name : Text) (before : World) (d : Dump) → IsOpened name before.files d → IsStored func_program name before d
+pub stored_of : (name : Text) (before : World) (d : Dump) → IsOpened name before.files d → IsStored sux_program name before d
 stored_of name before d o = record { file = o.file; passes = o.passes; accepted = o.accepted }

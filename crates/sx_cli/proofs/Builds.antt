@@ -16,7 +16,7 @@ use Rattle.sx_spec.specs.Outcomes.{IsGiven, IsBuildDone, GivesValues, first_valu
 use Rattle.sx_spec.specs.Run.{Promise, FilesAfterFault}
 use Rattle.sx_spec.specs.Values.{ValuesFault}
 use Rattle.sx_spec.specs.World.{World, Outcome, CountsStay, CountRose, OnlyRose, KeepsFiles, SetsFile, partly, to_end, the_shelf, the_input, the_out}
-use Rattle.sx_spec_program.specs.Program.{func_program}
+use Rattle.sx_spec_program.specs.Program.{sux_program}
 use Rattle.sx_cli.specs.Building.{IsReady, AllFail, RefusesLine}
 use Rattle.sx_cli.specs.Progress.{ReadsAll, FailsBehind}
 use Rattle.sx_cli.specs.Telling.{Tells, Fails}
@@ -39,7 +39,7 @@ module _ (t : BuildTask) (before after : World) (ticks : ℕ) (result : Status) 
   -- input failed in the midst of the keys
   pub keys_failed : (keys : List Text) → FailsBehind before.input after.input 8191 keys → AreKeys standard_limits keys → CountRose before after the_input
       → KeepsFiles before.files after.files → Keeps before.out after.out → Fails at_input before.err after.err before.faults.err after.faults.err result
-      → Promise func_program (build t) before after ticks result
+      → Promise sux_program (build t) before after ticks result
   keys_failed keys fails valid rose files out told = by_failure (build t) before after ticks at_input result told rose
       (record { taken = fails.taken; consumed = fails.consumed; fine = subst (AreKeys standard_limits) (sym fails.are) valid; short = fails.short })
       [] (kept_appends before.out after.out out) (inl refl) (inl files) (not_out at_input (inr rose)) (λ other e. absurd cc) tt tt counts
@@ -47,7 +47,7 @@ module _ (t : BuildTask) (before after : World) (ticks : ℕ) (result : Status) 
   -- a line is no key
   pub key_refused : (fault : KeyFault) → RefusesLine before.input after.input fault
       → KeepsFiles before.files after.files → Keeps before.out after.out → Tells (key_text fault) BadInput before.err after.err before.faults.err after.faults.err result
-      → Promise func_program (build t) before after ticks result
+      → Promise sux_program (build t) before after ticks result
   key_refused fault refuses files out told = by_message (build t) before after ticks
       (record { status = BadInput; reading = partly; out = []; err = key_text fault; file = None })
       (inr (inl (record { fault = fault; first_fault = refuses.first_fault; is = refl })))
@@ -56,13 +56,13 @@ module _ (t : BuildTask) (before after : World) (ticks : ℕ) (result : Status) 
 
   -- memory was wanting
   pub build_memory : KeepsFiles before.files after.files → Keeps before.out after.out
-      → Tells memory_text Memory before.err after.err before.faults.err after.faults.err result → Promise func_program (build t) before after ticks result
+      → Tells memory_text Memory before.err after.err before.faults.err after.faults.err result → Promise sux_program (build t) before after ticks result
   build_memory files out told = by_memory_message (build t) before after ticks result files out (λ other e. absurd cc) told (λ other e. absurd cc) tt tt tt counts
 
   module _ (keys : List Text) (all : ReadsAll before.input after.input keys) (valid : AreKeys standard_limits keys) where
     -- the values file failed
     pub values_failed : IsSome t.values → CountRose before after the_shelf → KeepsFiles before.files after.files → Keeps before.out after.out
-        → Fails at_values before.err after.err before.faults.err after.faults.err result → Promise func_program (build t) before after ticks result
+        → Fails at_values before.err after.err before.faults.err after.faults.err result → Promise sux_program (build t) before after ticks result
     values_failed named rose files out told = by_failure (build t) before after ticks at_values result told rose
         (named, (keys, all_lines before.input after.input keys all, valid), files)
         [] (kept_appends before.out after.out out) (inl refl) (inl files) (not_out at_values (inl rose)) (λ other e. absurd cc) tt tt counts
@@ -70,7 +70,7 @@ module _ (t : BuildTask) (before after : World) (ticks : ℕ) (result : Status) 
     -- the values file is refused
     pub values_refused : (name : Text) → t.values ≡ Some name → (fault : ValuesFault) → IfSome before.files (λ files. first_values_fault (length keys) (files name) ≡ Some fault)
         → KeepsFiles before.files after.files → Keeps before.out after.out
-        → Tells (values_text (length keys) fault) BadInput before.err after.err before.faults.err after.faults.err result → Promise func_program (build t) before after ticks result
+        → Tells (values_text (length keys) fault) BadInput before.err after.err before.faults.err after.faults.err result → Promise sux_program (build t) before after ticks result
     values_refused name named fault first_fault files out told = by_message (build t) before after ticks
         (record { status = BadInput; reading = to_end; out = []; err = values_text (length keys) fault; file = None })
         (inr (inr (inl (record { keys = keys; name = name; fault = fault; input = all_lines before.input after.input keys all; keys_fit = valid; named = named; first_fault = first_fault; is = refl }))))
@@ -78,14 +78,14 @@ module _ (t : BuildTask) (before after : World) (ticks : ℕ) (result : Status) 
         files (all.taken, all.consumed, all.end) (kept_appends before.out after.out out) told (λ other e. absurd cc) tt tt tt counts
 
     module _ (values : List ℕ) (gives : GivesValues t.values (length keys) before values) (many : length values ≡ length keys) where
-      given : IsGiven func_program t before keys values
+      given : IsGiven sux_program t before keys values
       given = record { input = all_lines before.input after.input keys all; keys_fit = valid; values_fit = gives; as_many = many }
 
       -- no seed works
       pub seeds_fail : (message : Text) → AllFail t.plan t.seeds keys values message → KeepsFiles before.files after.files → Keeps before.out after.out
-          → Tells message SeedsFailed before.err after.err before.faults.err after.faults.err result → Promise func_program (build t) before after ticks result
+          → Tells message SeedsFailed before.err after.err before.faults.err after.faults.err result → Promise sux_program (build t) before after ticks result
       seeds_fail message fail files out told = by_message (build t) before after ticks
-          (record { status = SeedsFailed; reading = to_end; out = []; err = func_program.seeds_text t.plan t.seeds fail.failures; file = None })
+          (record { status = SeedsFailed; reading = to_end; out = []; err = sux_program.seeds_text t.plan t.seeds fail.failures; file = None })
           (inr (inr (inr (record { keys = keys; values = values; failures = fail.failures; given = given; each_seed = fail.each_seed; is = refl }))))
           message (sym fail.message_is) SeedsFailed result refl (λ e. absurd cc) (λ e. absurd cc) refl
           files (all.taken, all.consumed, all.end) (kept_appends before.out after.out out) told (λ other e. absurd cc) tt tt tt counts
@@ -94,7 +94,7 @@ module _ (t : BuildTask) (before after : World) (ticks : ℕ) (result : Status) 
         outcome : Outcome
         outcome = record { status = Done; reading = to_end; out = built_line ready.dump; err = []; file = Some (t.dump, dump_bytes ready.dump) }
 
-        done : IsBuildDone func_program t before outcome
+        done : IsBuildDone sux_program t before outcome
         unfolding outcome
         done = record {
           keys = keys;
@@ -113,7 +113,7 @@ module _ (t : BuildTask) (before after : World) (ticks : ℕ) (result : Status) 
         bytes_are = ap words_bytes ready.words_are
 
         -- the file that is due, as far as it was written
-        part_files : SetsPart t.dump (words_bytes words) before.files after.files → FilesAfterFault func_program (build t) before after
+        part_files : SetsPart t.dump (words_bytes words) before.files after.files → FilesAfterFault sux_program (build t) before after
         unfolding outcome
         part_files (inl kept) = inl kept
         part_files (inr (part, begins, set)) = inr (outcome, inl done, (part, subst (IsPrefix part) bytes_are begins, set))
@@ -122,9 +122,9 @@ module _ (t : BuildTask) (before after : World) (ticks : ℕ) (result : Status) 
         whole_set files = subst (λ (bs : List ℕ). SetsFile t.dump bs before.files after.files) bytes_are files
 
         -- the dump is written, and the line on out
-        pub build_done : SetsFile t.dump (words_bytes words) before.files after.files → Appends before.out after.out line → Keeps before.err after.err → result ≡ Done → Promise func_program (build t) before after ticks result
+        pub build_done : SetsFile t.dump (words_bytes words) before.files after.files → Appends before.out after.out line → Keeps before.err after.err → result ≡ Done → Promise sux_program (build t) before after ticks result
         unfolding outcome
-        build_done files out err is = by_outcome func_program (build t) before after ticks result outcome (inl done) (sym is) (λ e. absurd cc) (λ e. absurd cc)
+        build_done files out err is = by_outcome sux_program (build t) before after ticks result outcome (inl done) (sym is) (λ e. absurd cc) (λ e. absurd cc)
             (record {
               files = whole_set files;
               input = (all.taken, all.consumed, all.end);
@@ -135,18 +135,18 @@ module _ (t : BuildTask) (before after : World) (ticks : ℕ) (result : Status) 
 
         -- a call on the shelf failed
         pub dump_failed : SetsPart t.dump (words_bytes words) before.files after.files → CountRose before after the_shelf → Keeps before.out after.out → after.faults.out ≡ before.faults.out
-            → Fails at_dump before.err after.err before.faults.err after.faults.err result → Promise func_program (build t) before after ticks result
+            → Fails at_dump before.err after.err before.faults.err after.faults.err result → Promise sux_program (build t) before after ticks result
         dump_failed files rose out count told = by_failure (build t) before after ticks at_dump result told rose ((outcome, done), record { bytes = out; count = count })
             [] (kept_appends before.out after.out out) (inl refl) (part_files files) (not_out at_dump (inl rose)) (λ other e. absurd cc) tt tt counts
 
         -- a write of the line failed
         pub line_failed : SetsFile t.dump (words_bytes words) before.files after.files → AppendsPrefix before.out after.out line → CountRose before after the_out
-            → Fails at_output before.err after.err before.faults.err after.faults.err result → Promise func_program (build t) before after ticks result
+            → Fails at_output before.err after.err before.faults.err after.faults.err result → Promise sux_program (build t) before after ticks result
         unfolding outcome
         line_failed files (part, begins, out) rose told = by_failure (build t) before after ticks at_output result told rose tt
             part out (inr (outcome, inl done, subst (IsPrefix part) ready.line_is begins))
             (inr (outcome, inl done, (dump_bytes ready.dump, ([], sym (append-nil (dump_bytes ready.dump))), whole_set files)))
-            (λ only other same. (outcome, subst (λ (x : BuildTask). IsBuildDone func_program x before outcome) (same_task other same) done, whole_set files))
+            (λ only other same. (outcome, subst (λ (x : BuildTask). IsBuildDone sux_program x before outcome) (same_task other same) done, whole_set files))
             (λ other e. absurd cc) tt tt counts
           where
             same_task : (other : BuildTask) → build t ≡ build other → t ≡ other

@@ -13,7 +13,7 @@ use Rattle.sx_spec.specs.Messages.{at_values, memory_text, key_text, values_text
 use Rattle.sx_spec.specs.Outcomes.{GivesValues}
 use Rattle.sx_spec.specs.Run.{Promise}
 use Rattle.sx_spec.specs.World.{World, Files, CountsStay, KeepsFiles, SetsFile}
-use Rattle.sx_spec_program.specs.Program.{func_program}
+use Rattle.sx_spec_program.specs.Program.{sux_program}
 use Rattle.sx_cli.specs.Building.{RefusesLine}
 use Rattle.sx_cli.specs.Progress.{ReadsAll}
 use Rattle.sx_cli.specs.Storing.{Outside, GivenEnds, Stores}
@@ -50,7 +50,7 @@ module _ (t : BuildTask) (before after : World) (ticks : ℕ) (result : Status) 
   -- either message is one that may come
   pub refuses_key : (fault : KeyFault) → RefusesLine before.input after.input fault → KeepsFiles before.files after.files → Keeps before.out after.out
       → Tells (key_text fault) BadInput before.err after.err before.faults.err after.faults.err result ⊎ Tells memory_text Memory before.err after.err before.faults.err after.faults.err result
-      → Promise func_program (build t) before after ticks result
+      → Promise sux_program (build t) before after ticks result
   refuses_key fault refuses files out (inl told) = key_refused t before after ticks result counts fault refuses files out told
   refuses_key fault refuses files out (inr told) = build_memory t before after ticks result counts files out told
 
@@ -58,14 +58,14 @@ module _ (t : BuildTask) (before after : World) (ticks : ℕ) (result : Status) 
     -- the values file is refused, or memory is wanting for the message
     pub refuses_values : (values : Option Text) → t.values ≡ values → (fault : ValuesFault) (b a : ℕ) → StopsGiving values (length keys) before.files b a (Refused fault)
         → Tells (values_text (length keys) (values_fault_of fault)) BadInput before.err after.err before.faults.err after.faults.err result ⊎ Tells memory_text Memory before.err after.err before.faults.err after.faults.err result
-        → Promise func_program (build t) before after ticks result
+        → Promise sux_program (build t) before after ticks result
     refuses_values None named fault b a stops told = absurd cc
     refuses_values (Some name) named fault b a stops (inl told) = values_refused t before after ticks result counts keys all valid name named (values_fault_of fault) stops files out told
     refuses_values (Some name) named fault b a stops (inr told) = build_memory t before after ticks result counts files out told
 
     -- the values file failed
     pub fails_values : (values : Option Text) → t.values ≡ values → StopsGiving values (length keys) before.files before.faults.shelf after.faults.shelf Failed
-        → Fails at_values before.err after.err before.faults.err after.faults.err result → Promise func_program (build t) before after ticks result
+        → Fails at_values before.err after.err before.faults.err after.faults.err result → Promise sux_program (build t) before after ticks result
     fails_values None named stops told = absurd cc
     fails_values (Some name) named stops told = values_failed t before after ticks result counts keys all valid (subst IsSome (sym named) refl) stops files out told
 
@@ -78,7 +78,7 @@ module _ (t : BuildTask) (before after : World) (ticks : ℕ) (result : Status) 
     new = record { files = after.files; out = after.out; err = after.err; shelf_faults = after.faults.shelf; out_faults = after.faults.out; err_faults = after.faults.err }
 
     -- what the keys and values come to is what is due
-    pub given_ends : GivenEnds t keys vs old new result → Promise func_program (build t) before after ticks result
+    pub given_ends : GivenEnds t keys vs old new result → Promise sux_program (build t) before after ticks result
     given_ends (inl s) = stored s.stores
       where
         due : GivesValues t.values (length keys) before vs
@@ -87,7 +87,7 @@ module _ (t : BuildTask) (before after : World) (ticks : ℕ) (result : Status) 
         all_many : length vs ≡ length keys
         all_many = many t.values (length keys) before.files vs given
 
-        stored : Stores t.dump s.words s.line old new result → Promise func_program (build t) before after ticks result
+        stored : Stores t.dump s.words s.line old new result → Promise sux_program (build t) before after ticks result
         stored (inl w) = build_done t before after ticks result counts keys all valid vs due all_many s.words s.line s.ready (kept_set t.dump (words_bytes s.words) before.files files after.files kept w.files) w.out w.err w.is
         stored (inr (inl f)) = let cause = f.cause in
             dump_failed t before after ticks result counts keys all valid vs due all_many s.words s.line s.ready (kept_part t.dump (words_bytes s.words) before.files files after.files kept f.files) (omega (arith, cause, later)) f.out f.count f.told

@@ -14,7 +14,7 @@ use Rattle.sx_spec.specs.Outcomes.{dump_refusal}
 use Rattle.sx_spec.specs.World.{Files}
 use Rattle.sx_spec.proofs.Reading.{passing_bytes_are_layouts}
 use Rattle.sx_spec_program.specs.Offer.{opened_by, offered_checks, offers_header}
-use Rattle.sx_spec_program.specs.Program.{func_program, func_offer, offered_fault}
+use Rattle.sx_spec_program.specs.Program.{sux_program, sux_offer, offered_fault}
 use Rattle.sx_edge.specs.Shelf.{Opens}
 use Rattle.sx_cli.specs.FileWords.{IsDecoded, ReadsFile, ReadsWords}
 use Rattle.sx_cli.specs.Opening.{IsFile, IsOpened, StopsAtCheck}
@@ -75,9 +75,9 @@ by_check bytes (Some check) = Err check
 by_check bytes None = opened bytes
 
 -- a file that fails the first check
-first_fails : (bytes : List ℕ) → sizes bytes ≡ false → opened_by func_offer bytes ≡ Err 1
+first_fails : (bytes : List ℕ) → sizes bytes ≡ false → opened_by sux_offer bytes ≡ Err 1
 first_fails bytes e = ap (by_check bytes)
-    (fails_first 1 (sizes bytes && true) (map (λ c. (c.0, c.1 && offers_header func_offer (header_of (bytes_words bytes)).plan c.0)) (word_checks (bytes_words bytes))) (false_and (sizes bytes) e))
+    (fails_first 1 (sizes bytes && true) (map (λ c. (c.0, c.1 && offers_header sux_offer (header_of (bytes_words bytes)).plan c.0)) (word_checks (bytes_words bytes))) (false_and (sizes bytes) e))
 
 -- a file that passes it is no larger than a dump may be
 small_size : (n : ℕ) → (n % 8 == 0 && is_in_range 80 (2 ^ 30) n) ≡ true → n ≤ 2 ^ 30
@@ -91,15 +91,15 @@ either true = inl refl
 either false = inr refl
 
 -- a file of more bytes than a dump may have fails the first check
-too_large : (bytes : List ℕ) → 2 ^ 30 < length bytes → opened_by func_offer bytes ≡ Err 1
+too_large : (bytes : List ℕ) → 2 ^ 30 < length bytes → opened_by sux_offer bytes ≡ Err 1
 too_large bytes long = by_test (either (sizes bytes))
   where
-    by_test : (sizes bytes ≡ true) ⊎ (sizes bytes ≡ false) → opened_by func_offer bytes ≡ Err 1
+    by_test : (sizes bytes ≡ true) ⊎ (sizes bytes ≡ false) → opened_by sux_offer bytes ≡ Err 1
     by_test (inl e) = let small = small_size (length bytes) e in absurd (omega arith)
     by_test (inr e) = first_fails bytes e
 
 -- what opens has no more bytes than a dump may have
-not_large : (bytes : List ℕ) (d : Dump) → opened_by func_offer bytes ≡ Ok d → length bytes ≤ 2 ^ 30
+not_large : (bytes : List ℕ) (d : Dump) → opened_by sux_offer bytes ≡ Ok d → length bytes ≤ 2 ^ 30
 not_large bytes d e = by_test (either (sizes bytes))
   where
     by_test : (sizes bytes ≡ true) ⊎ (sizes bytes ≡ false) → length bytes ≤ 2 ^ 30
@@ -107,8 +107,8 @@ not_large bytes d e = by_test (either (sizes bytes))
     by_test (inr is) = absurd (let f = first_fails bytes is in cc)
 
 -- what opens passes every check
-opens_whole : (bytes : List ℕ) (d : Dump) → opened_by func_offer bytes ≡ Ok d → opened bytes ≡ Ok d
-opens_whole bytes d e = by_checks (first_failing (offered_checks func_offer bytes)) e
+opens_whole : (bytes : List ℕ) (d : Dump) → opened_by sux_offer bytes ≡ Ok d → opened bytes ≡ Ok d
+opens_whole bytes d e = by_checks (first_failing (offered_checks sux_offer bytes)) e
   where
     by_checks : (o : Option ℕ) → by_check bytes o ≡ Ok d → opened bytes ≡ Ok d
     by_checks (Some check) h = absurd cc
@@ -117,14 +117,14 @@ opens_whole bytes d e = by_checks (first_failing (offered_checks func_offer byte
 -- ---- dumps
 
 -- the dump that was read from bytes that are opened
-pub bytes_dump : (bytes : List ℕ) (d : Dump) → ((i : ℕ) → slice_index bytes i < 256) → opened_by func_offer bytes ≡ Ok d
-    → (dump_bytes d ≡ bytes) × Passes d × (offered_fault func_offer (dump_bytes d) ≡ None)
+pub bytes_dump : (bytes : List ℕ) (d : Dump) → ((i : ℕ) → slice_index bytes i < 256) → opened_by sux_offer bytes ≡ Ok d
+    → (dump_bytes d ≡ bytes) × Passes d × (offered_fault sux_offer (dump_bytes d) ≡ None)
 bytes_dump bytes d small e =
     let whole = opens_whole bytes d e in
     let same : dump_bytes d ≡ bytes = passing_bytes_are_layouts.layout bytes d small whole in (
       same,
       ap opened same ∙ whole,
-      ap (λ (b : List ℕ). option_map check_text (result_err (opened_by func_offer b))) same ∙ ap (λ (r : Result Dump ℕ). option_map check_text (result_err r)) e,
+      ap (λ (b : List ℕ). option_map check_text (result_err (opened_by sux_offer b))) same ∙ ap (λ (r : Result Dump ℕ). option_map check_text (result_err r)) e,
     )
 
 le_or_lt : (a b : ℕ) → (a ≤ b) ⊎ (b < a)
@@ -141,7 +141,7 @@ read_whole all bytes is small = by_size (le_or_lt (length all) (2 ^ 30))
         absurd (omega arith)
 
 -- the file that was read is the dump
-pub file_opened : (name : Text) (files : Option Files) (words : List ℕ) (size : ℕ) (file : IsFile name files words size) (d : Dump) → opened_by func_offer file.bytes ≡ Ok d → IsOpened name files d
+pub file_opened : (name : Text) (files : Option Files) (words : List ℕ) (size : ℕ) (file : IsFile name files words size) (d : Dump) → opened_by sux_offer file.bytes ≡ Ok d → IsOpened name files d
 file_opened name files words size file d e =
     let (same, passes, accepted) = bytes_dump file.bytes d file.decoded.small e in
     record { file = told files file.told same; passes = passes; accepted = accepted }
@@ -153,31 +153,31 @@ file_opened name files words size file d e =
         at ∙ ap (λ (b : List ℕ). Some b) (sym (same ∙ read_whole all file.bytes is (not_large file.bytes d e)))
 
 -- the file that was read fails the same check
-pub file_refused : (name : Text) (files : Option Files) (words : List ℕ) (size : ℕ) (file : IsFile name files words size) (check : ℕ) → opened_by func_offer file.bytes ≡ Err check
-    → IfSome files (λ fs. dump_refusal func_program (fs name) ≡ Some (check_text check))
+pub file_refused : (name : Text) (files : Option Files) (words : List ℕ) (size : ℕ) (file : IsFile name files words size) (check : ℕ) → opened_by sux_offer file.bytes ≡ Err check
+    → IfSome files (λ fs. dump_refusal sux_program (fs name) ≡ Some (check_text check))
 file_refused name files words size file check e = told files file.told
   where
-    same_check : (all : List ℕ) → file.bytes ≡ take (2 ^ 30 + 1) all → opened_by func_offer all ≡ Err check
+    same_check : (all : List ℕ) → file.bytes ≡ take (2 ^ 30 + 1) all → opened_by sux_offer all ≡ Err check
     same_check all is = by_size (le_or_lt (length all) (2 ^ 30))
       where
-        by_size : (length all ≤ 2 ^ 30) ⊎ (2 ^ 30 < length all) → opened_by func_offer all ≡ Err check
-        by_size (inl le) = ap (opened_by func_offer) (sym (is ∙ take_all all (2 ^ 30 + 1) (omega arith))) ∙ e
+        by_size : (length all ≤ 2 ^ 30) ⊎ (2 ^ 30 < length all) → opened_by sux_offer all ≡ Err check
+        by_size (inl le) = ap (opened_by sux_offer) (sym (is ∙ take_all all (2 ^ 30 + 1) (omega arith))) ∙ e
         by_size (inr lt) =
             let size : length file.bytes ≡ 2 ^ 30 + 1 = ap (λ (b : List ℕ). length b) is ∙ length-take-le (2 ^ 30 + 1) all (omega arith) in
             too_large all lt ∙ sym (too_large file.bytes (omega arith)) ∙ e
 
-    told : (f : Option Files) → IfSome f (λ fs. (all : List ℕ) × (fs name ≡ Some all) × (file.bytes ≡ take (2 ^ 30 + 1) all)) → IfSome f (λ fs. dump_refusal func_program (fs name) ≡ Some (check_text check))
+    told : (f : Option Files) → IfSome f (λ fs. (all : List ℕ) × (fs name ≡ Some all) × (file.bytes ≡ take (2 ^ 30 + 1) all)) → IfSome f (λ fs. dump_refusal sux_program (fs name) ≡ Some (check_text check))
     told None h = tt
     told (Some fs) (all, at, is) =
-        ap (dump_refusal func_program) at ∙ ap (λ (r : Result Dump ℕ). option_map check_text (result_err r)) (same_check all is)
+        ap (dump_refusal sux_program) at ∙ ap (λ (r : Result Dump ℕ). option_map check_text (result_err r)) (same_check all is)
 
 -- no file has the name
-pub none_refused : (name : Text) (files : Option Files) → IfSome files (λ fs. fs name ≡ None) → IfSome files (λ fs. dump_refusal func_program (fs name) ≡ Some no_dump_text)
+pub none_refused : (name : Text) (files : Option Files) → IfSome files (λ fs. fs name ≡ None) → IfSome files (λ fs. dump_refusal sux_program (fs name) ≡ Some no_dump_text)
 none_refused name None none = tt
-none_refused name (Some fs) none = ap (dump_refusal func_program) none
+none_refused name (Some fs) none = ap (dump_refusal sux_program) none
 
 -- a check that fails is told, or memory is wanting for that
-pub check_stops : (name : Text) (files : Option Files) (check : ℕ) (old new : Option (List ℕ)) (before after : ℕ) (result : Status) → IfSome files (λ fs. dump_refusal func_program (fs name) ≡ Some (check_text check))
+pub check_stops : (name : Text) (files : Option Files) (check : ℕ) (old new : Option (List ℕ)) (before after : ℕ) (result : Status) → IfSome files (λ fs. dump_refusal sux_program (fs name) ≡ Some (check_text check))
     → Tells (check_text check) BadDump old new before after result ⊎ Tells memory_text Memory old new before after result → StopsAtCheck name files old new before after result
 check_stops name files check old new before after result refused (inl told) = inl (record { reason = check_text check; first_reason = refused; told = told })
 check_stops name files check old new before after result refused (inr told) = inr told

@@ -22,14 +22,6 @@ use Rattle.sx_cli.specs.declared.seeds.Tried.TheVariants.{Dump as TriedDump, Fai
 abbrev pub parts_for : Plan → List Text → List ℕ → List Part
 parts_for plan keys values = parts_of plan (least_width values) keys values
 
--- the plan of a static function
-pub record IsPlan (plan : Plan) : Type 0 where
-  pub kind : plan.kind ≡ Func
-  pub unsigned : plan.signed ≡ 0
-  pub buckets : plan.log_bucket ≡ 0
-  pub handles : plan.handle_bits ≡ 0
-  pub bits : plan.sig_bits ≤ 192
-
 -- what a build is to do
 abbrev pub build_of : WordsTask → BuildTask
 build_of task = record { plan = task.plan; seeds = task.seeds; values = task.values; dump = task.dump }

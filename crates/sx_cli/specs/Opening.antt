@@ -7,7 +7,7 @@ use Rattle.sx_spec.specs.Command.{Text}
 use Rattle.sx_spec.specs.Layout.{Dump, bytes_words, dump_bytes, Passes}
 use Rattle.sx_spec.specs.Messages.{at_dump, memory_text}
 use Rattle.sx_spec.specs.Outcomes.{dump_refusal}
-use Rattle.sx_spec_program.specs.Program.{func_program, func_offer, offered_fault}
+use Rattle.sx_spec_program.specs.Program.{sux_program, sux_offer, offered_fault}
 use Rattle.sx_cli.specs.FileWords.{IsDecoded}
 use Rattle.sx_cli.specs.Telling.{Tells, Fails}
 use Rattle.sx_spec.specs.World.{Files}
@@ -33,12 +33,12 @@ IsFound name files (Some file) = IsFile name files file.words.items file.bytes
 pub record IsOpened (name : Text) (files : Option Files) (dump : Dump) : Type 0 where
   pub file : IfSome files (λ fs. fs name ≡ Some (dump_bytes dump))
   pub passes : Passes dump
-  pub accepted : offered_fault func_offer (dump_bytes dump) ≡ None
+  pub accepted : offered_fault sux_offer (dump_bytes dump) ≡ None
 
 -- the file isn't there or is no dump, and the first reason is told
 pub record IsRefused (name : Text) (files : Option Files) (old new : Option (List ℕ)) (before after : ℕ) (result : Status) : Type 0 where
   pub reason : Text
-  pub first_reason : IfSome files (λ fs. dump_refusal func_program (fs name) ≡ Some reason)
+  pub first_reason : IfSome files (λ fs. dump_refusal sux_program (fs name) ≡ Some reason)
   pub told : Tells reason BadDump old new before after result
 
 -- what is told of a file that isn't read: it isn't there, the shelf has failed, or memory is wanting

@@ -7,8 +7,8 @@ ghost use Rattle.sx_spec.specs.Command.{build as build_of_task};
 ghost use Rattle.sx_spec.specs.Messages.{key_text, values_text, memory_text};
 ghost use Rattle.sx_spec.specs.Run.{Promise};
 ghost use Rattle.sx_spec.specs.World.{world, KeepsFiles};
-ghost use Rattle.sx_spec_program.specs.Program.{func_program};
-ghost use Rattle.sx_cli.specs.Building.{IsPlan, build_of};
+ghost use Rattle.sx_spec_program.specs.Program.{sux_program, IsOfferedPlan};
+ghost use Rattle.sx_cli.specs.Building.{build_of};
 ghost use Rattle.sx_text.specs.Reasons.{fault_of};
 ghost use Rattle.sx_cli.specs.Storing.{Stores, GivenEnds};
 ghost use Rattle.sx_cli.specs.Telling.{Tells};
@@ -116,7 +116,7 @@ fn build_given<F: Shelf, O: Sink, E: Sink>(
 ) -> Status
     requires idle { F.in_use files.old ≡ idle }
     requires values { length values.now ≡ length keys.now.lines }
-    requires plan { IsPlan task.now.plan }
+    requires plan { IsOfferedPlan task.now.plan }
     ensures ends { GivenEnds (build_of task.now) keys.now.lines values.now
         (record { files = F.files files.old; out = O.written out.old; err = E.written err.old; shelf_faults = F.faults files.old; out_faults = O.faults out.old; err_faults = E.faults err.old })
         (record { files = F.files files.new; out = O.written out.new; err = E.written err.new; shelf_faults = F.faults files.new; out_faults = O.faults out.new; err_faults = E.faults err.new })
@@ -151,8 +151,8 @@ pub fn build<F: Shelf, S: Source, O: Sink, E: Sink>(
     err: &mut E,
 ) -> Status
     requires idle { F.in_use files.old ≡ idle }
-    requires plan { IsPlan task.now.plan }
-    ensures promise { (ticks : ℕ) → Promise func_program (build_of_task (build_of task.now))
+    requires plan { IsOfferedPlan task.now.plan }
+    ensures promise { (ticks : ℕ) → Promise sux_program (build_of_task (build_of task.now))
         (world (F.files files.old) (S.left input.old) (O.written out.old) (E.written err.old) (F.faults files.old) (S.faults input.old) (O.faults out.old) (E.faults err.old))
         (world (F.files files.new) (S.left input.new) (O.written out.new) (E.written err.new) (F.faults files.new) (S.faults input.new) (O.faults out.new) (E.faults err.new))
         ticks result }

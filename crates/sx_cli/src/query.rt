@@ -7,7 +7,7 @@ ghost use Rattle.sx_spec.specs.Command.{query as query_of};
 ghost use Rattle.sx_spec.specs.Messages.{message};
 ghost use Rattle.sx_spec.specs.Run.{Promise};
 ghost use Rattle.sx_spec.specs.World.{world};
-ghost use Rattle.sx_spec_program.specs.Program.{func_program};
+ghost use Rattle.sx_spec_program.specs.Program.{sux_program};
 ghost use Rattle.sx_cli.specs.Serving.{Ends};
 ghost use Rattle.sx_cli.specs.Telling.{Tells};
 
@@ -67,7 +67,7 @@ pub fn query<F: Shelf, S: Source, O: Sink, E: Sink, L: Ledger>(
     steps: &mut Steps<L>,
 ) -> Status
     requires { F.in_use files.old ≡ idle }
-    ensures promise { Promise func_program (query_of name.now)
+    ensures promise { Promise sux_program (query_of name.now)
         (world (F.files files.old) (S.left input.old) (O.written out.old) (E.written err.old) (F.faults files.old) (S.faults input.old) (O.faults out.old) (E.faults err.old))
         (world (F.files files.new) (S.left input.new) (O.written out.new) (E.written err.new) (F.faults files.new) (S.faults input.new) (O.faults out.new) (E.faults err.new))
         (steps.new - steps.old) result }

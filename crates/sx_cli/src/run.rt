@@ -7,7 +7,7 @@ ghost use Rattle.sx_spec.specs.Messages.{memory_text, usage_text};
 ghost use Rattle.sx_spec.specs.Run.{Promise};
 ghost use Rattle.sx_spec.specs.World.{world};
 ghost use Rattle.sx_spec_program.specs.Offer.{offered};
-ghost use Rattle.sx_spec_program.specs.Program.{func_offer, func_program};
+ghost use Rattle.sx_spec_program.specs.Program.{sux_offer, sux_program};
 ghost use Rattle.sx_cli.specs.Telling.{Tells};
 
 use crate::build::build;
@@ -53,7 +53,7 @@ pub fn run<F: Shelf, S: Source, O: Sink, E: Sink, L: Ledger>(
     steps: &mut Steps<L>,
 ) -> Status
     requires { F.in_use files.old ≡ idle }
-    ensures promise { Promise func_program (offered func_offer words.now)
+    ensures promise { Promise sux_program (offered sux_offer words.now)
         (world (F.files files.old) (S.left input.old) (O.written out.old) (E.written err.old) (F.faults files.old) (S.faults input.old) (O.faults out.old) (E.faults err.old))
         (world (F.files files.new) (S.left input.new) (O.written out.new) (E.written err.new) (F.faults files.new) (S.faults input.new) (O.faults out.new) (E.faults err.new))
         (steps.new - steps.old) result }

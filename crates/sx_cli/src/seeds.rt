@@ -2,7 +2,8 @@
 ghost use Rattle.std.specs.Prelude.{◌≡◌, ◌≤◌, ◌<◌, ◌^◌, ◌++◌, IfOk, OnOk, All, length};
 ghost use Rattle.sx_spec_kinds.specs.declared.Kind.TheVariants.{Func};
 ghost use Rattle.sx_spec.specs.Messages.{no_seed_text};
-ghost use Rattle.sx_cli.specs.Building.{IsPlan, IsTried};
+ghost use Rattle.sx_spec_program.specs.Program.{IsOfferedPlan};
+ghost use Rattle.sx_cli.specs.Building.{IsTried};
 
 use std::alloc::{AllocError, Global};
 use sx_bits::KeyList;
@@ -29,7 +30,7 @@ pub fn try_seeds(
     values: &[u64],
 ) -> Result<Tried, AllocError>
     requires values { length values.now ≡ length keys.now.lines }
-    requires plan { IsPlan plan.now }
+    requires plan { IsOfferedPlan plan.now }
     ensures { IfOk result (IsTried plan.now seeds.now keys.now.lines values.now) }
 {
     let mut message = Vec::new(alloc);

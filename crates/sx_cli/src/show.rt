@@ -6,7 +6,7 @@ ghost use Rattle.sx_spec.specs.Messages.{opened_line};
 ghost use Rattle.sx_spec.specs.Run.{Promise};
 ghost use Rattle.sx_spec.specs.Show.{dump_text};
 ghost use Rattle.sx_spec.specs.World.{world};
-ghost use Rattle.sx_spec_program.specs.Program.{func_program};
+ghost use Rattle.sx_spec_program.specs.Program.{sux_program};
 ghost use Rattle.sx_dump.specs.Opening.{dump_in};
 ghost use Rattle.sx_cli.specs.Showing.{Shows, wanted_task};
 
@@ -75,7 +75,7 @@ pub fn show<F: Shelf, O: Sink, E: Sink>(
     err: &mut E,
 ) -> Status
     requires { F.in_use files.old ≡ idle }
-    ensures promise { (input : Option (List ℕ)) (input_faults ticks : ℕ) → Promise func_program (wanted_task wanted name.now)
+    ensures promise { (input : Option (List ℕ)) (input_faults ticks : ℕ) → Promise sux_program (wanted_task wanted name.now)
         (world (F.files files.old) input (O.written out.old) (E.written err.old) (F.faults files.old) input_faults (O.faults out.old) (E.faults err.old))
         (world (F.files files.new) input (O.written out.new) (E.written err.new) (F.faults files.new) input_faults (O.faults out.new) (E.faults err.new))
         ticks result }

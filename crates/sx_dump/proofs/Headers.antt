@@ -11,7 +11,7 @@ use Rattle.sx_spec.specs.Kinds.{uses_method, uses_buckets, uses_handles}
 use Rattle.sx_spec.specs.Layout.{Dump, header_of, kinds, magic, u32_max, word_checks}
 use Rattle.sx_spec.proofs.Sections.{both_true, none_fails}
 use Rattle.sx_spec_program.specs.Offer.{offers_header}
-use Rattle.sx_spec_program.specs.Program.{func_offer}
+use Rattle.sx_spec_program.specs.Program.{sux_offer}
 use Rattle.sx_static.proofs.FunctionSections.{AllTrue, all_true}
 use Rattle.sx_dump.specs.Opening.{IsFuncHeader, file_checks, offered_file_checks, func_checks, opened_words, sections_found}
 
@@ -72,7 +72,7 @@ module _ (words : List ℕ) (bytes : ℕ) where
       ∷ []
 
   abbrev offered_of : ℕ → List (ℕ × Bool)
-  offered_of code = map (λ c. (c.0, c.1 && offers_header func_offer (plan_of code) c.0)) (checks_of code)
+  offered_of code = map (λ c. (c.0, c.1 && offers_header sux_offer (plan_of code) c.0)) (checks_of code)
 
   abbrev func_of : ℕ → List (ℕ × Bool)
   func_of code =
@@ -110,7 +110,7 @@ module _ (words : List ℕ) (bytes : ℕ) where
       ∷ (10, (and_true (nat_le (slice_index words 9) 64 && (false || slice_index words 9 == 0)) ∙ small_and_zero (slice_index words 9) 64) i)
       ∷ []
 
-  not_offered : (n : ℕ) → (nat_le (suc n) 5 && offers_header func_offer (plan_of (suc n)) 4) ≡ false
+  not_offered : (n : ℕ) → (nat_le (suc n) 5 && offers_header sux_offer (plan_of (suc n)) 4) ≡ false
   not_offered zero = refl
   not_offered (suc zero) = refl
   not_offered (suc (suc zero)) = refl
@@ -118,11 +118,11 @@ module _ (words : List ℕ) (bytes : ℕ) where
   not_offered (suc (suc (suc (suc zero)))) = refl
   not_offered (suc (suc (suc (suc (suc n))))) =
       let code = suc (suc (suc (suc (suc (suc n))))) in
-      ap (λ (t : Bool). t && offers_header func_offer (plan_of code) 4) (lt-leb code 5 (omega arith))
+      ap (λ (t : Bool). t && offers_header sux_offer (plan_of code) 4) (lt-leb code 5 (omega arith))
 
   by_code : (code : ℕ) → first_failing (offered_of code) ≡ first_failing (func_of code)
   by_code zero = ap first_failing same_rows
-  by_code (suc n) = stops_at_kind (nat_le (suc n) 5 && offers_header func_offer (plan_of (suc n)) 4) (suc n == 0) (drop 4 (offered_of (suc n))) (drop 4 (func_of (suc n))) (not_offered n) (ne_eqb (suc n) 0 (λ e. omega arith))
+  by_code (suc n) = stops_at_kind (nat_le (suc n) 5 && offers_header sux_offer (plan_of (suc n)) 4) (suc n == 0) (drop 4 (offered_of (suc n))) (drop 4 (func_of (suc n))) (not_offered n) (ne_eqb (suc n) 0 (λ e. omega arith))
 
   -- the checks of what is offered are those of a function
   pub offered_are_func : first_failing (offered_file_checks words bytes) ≡ first_failing (func_checks words bytes)

@@ -12,7 +12,7 @@ use Rattle.sx_spec.proofs.Reading.{all_dropped, header_back, sections_back}
 use Rattle.sx_static.specs.FunctionSections.{function_at, function_found}
 use Rattle.sx_static.specs.Viewing.{viewed}
 use Rattle.sx_spec_program.specs.Offer.{opened_by}
-use Rattle.sx_spec_program.specs.Program.{func_offer}
+use Rattle.sx_spec_program.specs.Program.{sux_offer}
 use Rattle.sx_dump.specs.Opening.{IsFile, IsFuncHeader, dump_in, opened_words, sections_found}
 use Rattle.sx_dump.proofs.Headers.{word_checks_hold}
 
@@ -116,5 +116,5 @@ module _ (words : List ℕ) (h : IsFuncHeader words) where
 -- ---- files
 
 -- what words and a size are opened as, their file is
-pub file_opens : (words : List ℕ) (bytes : ℕ) (file : List ℕ) (r : Result Dump ℕ) → IsFile words bytes file → opened_words words bytes ≡ r → opened_by func_offer file ≡ r
+pub file_opens : (words : List ℕ) (bytes : ℕ) (file : List ℕ) (r : Result Dump ℕ) → IsFile words bytes file → opened_words words bytes ≡ r → opened_by sux_offer file ≡ r
 file_opens words bytes file r is found = (λ i. opened_words (is.held i) (is.size i)) ∙ found

@@ -5,7 +5,7 @@ use Rattle.sx_fields.specs.declared.section.Section.{Section}
 use Rattle.sx_spec_strings.specs.First.{first_failing}
 use Rattle.sx_spec.specs.Layout.{Dump, bytes_words, dump_with, function_section, header_of, magic, sections_in, slots, u32_max, word_checks}
 use Rattle.sx_spec_program.specs.Offer.{offers_header, opened_by}
-use Rattle.sx_spec_program.specs.Program.{func_offer}
+use Rattle.sx_spec_program.specs.Program.{sux_offer}
 use Rattle.sx_static.specs.Viewing.{viewed}
 use Rattle.sx_dump.specs.declared.open.OpenFault.{OpenFault}
 use Rattle.sx_dump.specs.declared.open.OpenFault.TheVariants.{Malformed, Memory}
@@ -24,8 +24,8 @@ pub record IsFile (words : List ℕ) (bytes : ℕ) (file : List ℕ) : Type 0 wh
 
 -- why a file with these words isn't opened: its first check that fails, or want of memory after every check
 abbrev pub IsFault : List ℕ → List ℕ → OpenFault → Type 0
-IsFault words file (Malformed check) = opened_by func_offer file ≡ Err check
-IsFault words file Memory = opened_by func_offer file ≡ Ok (dump_in words)
+IsFault words file (Malformed check) = opened_by sux_offer file ≡ Err check
+IsFault words file Memory = opened_by sux_offer file ≡ Ok (dump_in words)
 
 -- ---- by words alone
 
@@ -35,7 +35,7 @@ file_checks words bytes = (1, bytes % 8 == 0 && is_in_range 80 (2 ^ 30) bytes) �
 
 -- those checks, where what isn't offered fails too
 abbrev pub offered_file_checks : List ℕ → ℕ → List (ℕ × Bool)
-offered_file_checks words bytes = map (λ c. (c.0, c.1 && offers_header func_offer (header_of words).plan c.0)) (file_checks words bytes)
+offered_file_checks words bytes = map (λ c. (c.0, c.1 && offers_header sux_offer (header_of words).plan c.0)) (file_checks words bytes)
 
 -- those checks where only a static function is offered
 abbrev pub func_checks : List ℕ → ℕ → List (ℕ × Bool)

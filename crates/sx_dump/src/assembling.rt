@@ -2,10 +2,10 @@
 
 ghost use Rattle.std.specs.Prelude.{◌≡◌, ◌+◌, ◌^◌, ◌<◌, ◌≤◌, [], ◌∷◌, ◌++◌, IfOk, length, map};
 ghost use Rattle.sx_spec_strings.specs.Numbers.{binary_digits};
-ghost use Rattle.sx_spec_kinds.specs.declared.Kind.TheVariants.{Func};
 ghost use Rattle.sx_spec.specs.Fields.{packed};
 ghost use Rattle.sx_spec.specs.Layout.{magic, header_words, method_code as method_code_of};
 ghost use Rattle.sx_spec.specs.Parts.{least_width as least_width_of};
+ghost use Rattle.sx_spec_program.specs.Program.{IsOfferedPlan};
 ghost use Rattle.sx_bits.specs.KeyLists.{IsKeyList};
 ghost use Rattle.sx_dump.specs.Assembling.{IsAssembled, function_dump_words, key_signature};
 
@@ -97,10 +97,7 @@ fn method_code(method: Method) -> u64
 /// the number of pairs. `rest` words follow.
 fn front_words(plan: &Plan, keys: u32, seed: u64, width: u32, rest: usize) -> [u64; 12]
     requires few { rest < 2 ^ 32 }
-    requires kind { plan.now.kind ≡ Func }
-    requires unsigned { plan.now.signed ≡ 0 }
-    requires buckets { plan.now.log_bucket ≡ 0 }
-    requires handles { plan.now.handle_bits ≡ 0 }
+    requires plan { IsOfferedPlan plan.now }
     ensures { result ≡ magic ∷ (rest + 12) ∷ header_words (record { plan = plan.now; keys = keys; seed = seed }) ++ (width ∷ keys ∷ []) }
 {
     let pairs = u64::from(keys);
@@ -128,10 +125,7 @@ fn dump_words(
     function: &FuncBuf,
 ) -> Result<Vec<u64>, AllocError>
     requires few { length function.now.table.items + length (packed function.now.cells.width function.now.cells.items) < 2 ^ 32 }
-    requires kind { plan.now.kind ≡ Func }
-    requires unsigned { plan.now.signed ≡ 0 }
-    requires buckets { plan.now.log_bucket ≡ 0 }
-    requires handles { plan.now.handle_bits ≡ 0 }
+    requires plan { IsOfferedPlan plan.now }
     ensures { IfOk result (λ words. words.items ≡ function_dump_words plan.now seed function.now) }
 {
     let table = function.table.as_slice();
@@ -159,11 +153,7 @@ pub fn assemble(
     plan: &Plan,
     seed: u64,
 ) -> Result<Assembled, AllocError>
-    requires kind { plan.now.kind ≡ Func }
-    requires unsigned { plan.now.signed ≡ 0 }
-    requires buckets { plan.now.log_bucket ≡ 0 }
-    requires handles { plan.now.handle_bits ≡ 0 }
-    requires sig_bits { plan.now.sig_bits ≤ 192 }
+    requires plan { IsOfferedPlan plan.now }
     requires values { length values.now ≡ length keys.now.lines }
     ensures { IfOk result (IsAssembled keys.now.lines values.now plan.now seed) }
 {

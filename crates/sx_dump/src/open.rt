@@ -5,7 +5,7 @@ ghost use Rattle.std.specs.Int.{div_ceil};
 ghost use Rattle.sx_spec_strings.specs.First.{first_failing};
 ghost use Rattle.sx_spec.specs.Layout.{layout};
 ghost use Rattle.sx_spec_program.specs.Offer.{opened_by};
-ghost use Rattle.sx_spec_program.specs.Program.{func_offer};
+ghost use Rattle.sx_spec_program.specs.Program.{sux_offer};
 ghost use Rattle.sx_static.specs.Viewing.{IsViewed};
 ghost use Rattle.sx_dump.specs.Opening.{IsFault, IsFile, IsFuncHeader, IsRefused, dump_found, dump_in, func_checks, opened_words, sections_found};
 
@@ -138,7 +138,7 @@ pub fn open_dump<B: WordBank + Copy>(
     ensures found { IfOk result (λ d. opened_words words.now bytes ≡ Ok (dump_in (B.words_of d.bank))) }
     ensures refused { IfErr result (IsRefused words.now bytes) }
     ensures opened { IfOk result (λ d. (file : List ℕ) → IsFile words.now bytes file
-        → opened_by func_offer file ≡ Ok (dump_in (B.words_of d.bank))) }
+        → opened_by sux_offer file ≡ Ok (dump_in (B.words_of d.bank))) }
     ensures bank { IfOk result (λ d. d.bank ≡ bank) }
     ensures fault { IfErr result (λ fault. (file : List ℕ)
         → IsFile words.now bytes file → IsFault words.now file fault) }

@@ -311,7 +311,11 @@ fn feed_place(buf: &[u8], start: usize, end: usize) -> usize
 }
 
 // Reads once into what follows the first `len` bytes of the buffer.
-pub(crate) fn read_behind<P: Feed<T>, T>(from: &mut T, buf: &mut [u8], len: usize) -> Result<usize, Failed>
+pub(crate) fn read_behind<P: Feed<T>, T>(
+    from: &mut T,
+    buf: &mut [u8],
+    len: usize,
+) -> Result<usize, Failed>
     requires room { len < length buf.old }
     requires may_read { P.may_read from.old }
     ensures took { IfOk result (λ count. TakesBehind (P.left from.old) (P.left from.new) buf.old buf.new len count) }

@@ -7,11 +7,11 @@ use Rattle.sx_spec.specs.declared.Rule.TheVariants.{NoCommand, UnknownCommand, B
 use Rattle.sx_spec.specs.Command.{Text, Task, BuildTask, usage, build, query, show_dump}
 use Rattle.sx_spec.specs.Layout.{words_bytes, magic}
 use Rattle.sx_spec_program.specs.Offer.{offered, opened_by}
-use Rattle.sx_spec_program.specs.Program.{func_offer}
+use Rattle.sx_spec_program.specs.Program.{sux_offer}
 
 -- the words as the program over static functions reads them
 abbrev pub reads : List Text → Task
-reads words = offered func_offer words
+reads words = offered sux_offer words
 
 -- `build` of the file D with these seeds, so many bits of signatures, and values from a file
 abbrev pub builds : List ℕ → ℕ → BuildTask
@@ -47,5 +47,5 @@ signed_words = magic ∷ 14 ∷ 0 ∷ 0 ∷ 0 ∷ 0 ∷ 192 ∷ 0 ∷ 8 ∷ 0 �
 
 -- which dumps aren't opened
 pub record OpenExamples : Type 0 where
-  pub kind : opened_by func_offer (words_bytes hollow_words) ≡ Err 4
-  pub signed : opened_by func_offer (words_bytes signed_words) ≡ Err 9
+  pub kind : opened_by sux_offer (words_bytes hollow_words) ≡ Err 4
+  pub signed : opened_by sux_offer (words_bytes signed_words) ≡ Err 9

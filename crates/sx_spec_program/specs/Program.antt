@@ -1,8 +1,9 @@
--- The program over static functions.
-use Rattle.std.specs.Prelude.{ℕ, List, [], ◌∷◌, Option, option_map, codes}
+-- What this program offers, and the program that offers so much.
+use Rattle.std.specs.Prelude.{◌≡◌, ◌≤◌, ℕ, List, [], ◌∷◌, Option, option_map, codes}
 use Rattle.std.specs.Result.{result_err}
 use Rattle.sx_spec_kinds.specs.declared.Kind.TheVariants.{Func}
 use Rattle.sx_spec.specs.declared.OptionName.TheVariants.{Seeds, Method as MethodName, SigBits, Values}
+use Rattle.sx_spec.specs.declared.Plan.{Plan}
 use Rattle.sx_spec.specs.Command.{Text}
 use Rattle.sx_spec.specs.Keys.{standard_limits}
 use Rattle.sx_spec.specs.Messages.{key_text, seeds_text, check_text, fault_text}
@@ -10,14 +11,22 @@ use Rattle.sx_spec.specs.Outcomes.{Profile}
 use Rattle.sx_spec.specs.Parts.{least_width}
 use Rattle.sx_spec_program.specs.Offer.{Offer, offered, opened_by}
 
--- static functions, built by either method, with values and without a signed width
-abbrev pub func_offer : Offer
-func_offer = record {
+-- what sux offers: static functions, built by either method, with values and without a signed width
+abbrev pub sux_offer : Offer
+sux_offer = record {
   commands = codes "build" ∷ codes "query" ∷ codes "open" ∷ codes "dump" ∷ [];
   kinds = Func ∷ [];
   options = Seeds ∷ MethodName ∷ SigBits ∷ Values ∷ [];
   signed = 0;
 }
+
+-- the plan of a dump that this program builds
+pub record IsOfferedPlan (plan : Plan) : Type 0 where
+  pub kind : plan.kind ≡ Func
+  pub unsigned : plan.signed ≡ 0
+  pub buckets : plan.log_bucket ≡ 0
+  pub handles : plan.handle_bits ≡ 0
+  pub bits : plan.sig_bits ≤ 192
 
 -- what is told of the first check that the bytes of a file fail
 abbrev pub offered_fault : Offer → List ℕ → Option Text
@@ -36,6 +45,6 @@ program offer = record {
   fault_text = fault_text;
 }
 
--- the program over static functions
-abbrev pub func_program : Profile
-func_program = program func_offer
+-- the program sux
+abbrev pub sux_program : Profile
+sux_program = program sux_offer

@@ -17,7 +17,7 @@ use Rattle.sx_spec.specs.Values.{number_below}
 use Rattle.sx_spec.specs.Layout.{kinds}
 use Rattle.sx_spec.specs.Command.{Text, Setting, Split, BuildTask, Task, usage, build, query, open_dump, show_dump, command, verbs, verb_task, for_split, for_kind, unless, trial_task, number_within, well_formed, split_words, split_plain, positional, setting, same_option, kind_named, options_rule, option_names, build_task, plan_of, number_of, goes_with}
 use Rattle.sx_spec_program.specs.Offer.{offered, offered_build, offers_options, offers_kind_word}
-use Rattle.sx_spec_program.specs.Program.{func_offer}
+use Rattle.sx_spec_program.specs.Program.{sux_offer, IsOfferedPlan}
 use Rattle.sx_words.specs.Rules.{has_bad_value}
 use Rattle.sx_words.proofs.Plans.{no_rule, none_found, number_fits}
 use Rattle.sx_words.proofs.Verdicts.{rule_is}
@@ -25,7 +25,7 @@ use Rattle.sx_words.proofs.Verdicts.{rule_is}
 -- ---- the pieces
 
 -- the only kind that is offered
-only_func : (word : Text) (kind : Kind) → offers_kind_word func_offer word ≡ true → kind_named word ≡ Some kind → kind ≡ Func
+only_func : (word : Text) (kind : Kind) → offers_kind_word sux_offer word ≡ true → kind_named word ≡ Some kind → kind ≡ Func
 only_func word kind offers named = by_test (bytes_eq (kind_word Func) word) (λ k. bytes_eq (kind_word k) word) offers named
   where
     by_test : (b : Bool) (p : Kind → Bool) → (b || false) ≡ true → (if b then Some Func else find p (drop 1 kinds)) ≡ Some kind → kind ≡ Func
@@ -33,15 +33,15 @@ only_func word kind offers named = by_test (bytes_eq (kind_word Func) word) (λ 
     by_test false p o n = absurd cc
 
 -- a signed width isn't offered
-no_signed : (settings : List Setting) → list_all (λ t. list_any (same_option t.name) func_offer.options) settings ≡ true → find (λ t. same_option Signed t.name) settings ≡ None
+no_signed : (settings : List Setting) → list_all (λ t. list_any (same_option t.name) sux_offer.options) settings ≡ true → find (λ t. same_option Signed t.name) settings ≡ None
 no_signed [] offers = refl
 no_signed (t ∷ settings) offers = by_name t.name t refl (no_signed settings rest)
   where
-    rest : list_all (λ t. list_any (same_option t.name) func_offer.options) settings ≡ true
-    rest = (and_parts (list_any (same_option t.name) func_offer.options) (list_all (λ t. list_any (same_option t.name) func_offer.options) settings) offers).1
+    rest : list_all (λ t. list_any (same_option t.name) sux_offer.options) settings ≡ true
+    rest = (and_parts (list_any (same_option t.name) sux_offer.options) (list_all (λ t. list_any (same_option t.name) sux_offer.options) settings) offers).1
 
-    here : list_any (same_option t.name) func_offer.options ≡ true
-    here = (and_parts (list_any (same_option t.name) func_offer.options) (list_all (λ t. list_any (same_option t.name) func_offer.options) settings) offers).0
+    here : list_any (same_option t.name) sux_offer.options ≡ true
+    here = (and_parts (list_any (same_option t.name) sux_offer.options) (list_all (λ t. list_any (same_option t.name) sux_offer.options) settings) offers).0
 
     by_name : (name : OptionName) (x : Setting) → name ≡ t.name → find (λ t. same_option Signed t.name) settings ≡ None → (if same_option Signed name then Some x else find (λ t. same_option Signed t.name) settings) ≡ None
     by_name Seeds x is more = more
@@ -49,7 +49,7 @@ no_signed (t ∷ settings) offers = by_name t.name t refl (no_signed settings re
     by_name LogBucket x is more = more
     by_name SigBits x is more = more
     by_name HandleBits x is more = more
-    by_name Signed x is more = absurd (let h : list_any (same_option Signed) func_offer.options ≡ true = ap (λ (n : OptionName). list_any (same_option n) func_offer.options) is ∙ here in cc)
+    by_name Signed x is more = absurd (let h : list_any (same_option Signed) sux_offer.options ≡ true = ap (λ (n : OptionName). list_any (same_option n) sux_offer.options) is ∙ here in cc)
     by_name Values x is more = more
 
 -- ---- the command
@@ -111,15 +111,8 @@ build_word word rest b e = by_tests (bytes_eq (codes "build") word) refl (bytes_
 
 -- ---- the plan
 
--- the plan of a static function
-pub record IsFuncPlan (plan : Plan) : Type 0 where
-  pub kind : plan.kind ≡ Func
-  pub unsigned : plan.signed ≡ 0
-  pub buckets : plan.log_bucket ≡ 0
-  pub handles : plan.handle_bits ≡ 0
-  pub bits : plan.sig_bits ≤ 192
-
-func_fits : (s : Split) → offers_options func_offer s ≡ true → options_rule s Func ≡ None → IsFuncPlan (plan_of s Func)
+-- the plan is one that is offered
+func_fits : (s : Split) → offers_options sux_offer s ≡ true → options_rule s Func ≡ None → IsOfferedPlan (plan_of s Func)
 func_fits s offers free =
     let good = none_found (has_bad_value s) option_names (no_rule (find (has_bad_value s) option_names) _ _ (sym (rule_is s Func) ∙ free)) in
     record {
@@ -131,29 +124,29 @@ func_fits s offers free =
     }
 
 -- the words of a build ask for the plan of a static function
-pub plan_fits : (words : List Text) (b : BuildTask) → offered func_offer words ≡ build b → IsFuncPlan b.plan
+pub plan_fits : (words : List Text) (b : BuildTask) → offered sux_offer words ≡ build b → IsOfferedPlan b.plan
 plan_fits [] b e = absurd cc
-plan_fits (word ∷ rest) b e = by_tests (not (list_any (bytes_eq word) func_offer.commands)) (bytes_eq word (codes "build")) refl e
+plan_fits (word ∷ rest) b e = by_tests (not (list_any (bytes_eq word) sux_offer.commands)) (bytes_eq word (codes "build")) refl e
   where
-    by_offer : (s : Split) → well_formed 2 (split_words rest) ≡ Some s → (x : Bool) → offers_options func_offer s ≡ x → (y : Bool) → offers_kind_word func_offer (positional s 0) ≡ y
-        → (if not x then usage BadWords else if not y then usage UnknownKind else command (word ∷ rest)) ≡ build b → IsFuncPlan b.plan
+    by_offer : (s : Split) → well_formed 2 (split_words rest) ≡ Some s → (x : Bool) → offers_options sux_offer s ≡ x → (y : Bool) → offers_kind_word sux_offer (positional s 0) ≡ y
+        → (if not x then usage BadWords else if not y then usage UnknownKind else command (word ∷ rest)) ≡ build b → IsOfferedPlan b.plan
     by_offer s formed false a y c h = absurd cc
     by_offer s formed true a false c h = absurd cc
     by_offer s formed true a true c h =
         let built = (build_word word rest b h).1 in
         let same : built.split ≡ s = (let both : Some built.split ≡ Some s = sym built.formed ∙ formed in cc) in
-        let options : offers_options func_offer built.split ≡ true = rw same a in
+        let options : offers_options sux_offer built.split ≡ true = rw same a in
         let kind_is : built.kind ≡ Func = only_func (positional built.split 0) built.kind (rw same c) built.named in
         let free : options_rule built.split Func ≡ None = rw kind_is at built.free in
         let is : b ≡ build_task built.split Func = rw kind_is at built.is in
-        subst (λ (t : BuildTask). IsFuncPlan t.plan) (sym is) (func_fits built.split options free)
+        subst (λ (t : BuildTask). IsOfferedPlan t.plan) (sym is) (func_fits built.split options free)
 
-    by_split : (o : Option Split) → well_formed 2 (split_words rest) ≡ o → offered_build func_offer o (command (word ∷ rest)) ≡ build b → IsFuncPlan b.plan
+    by_split : (o : Option Split) → well_formed 2 (split_words rest) ≡ o → offered_build sux_offer o (command (word ∷ rest)) ≡ build b → IsOfferedPlan b.plan
     by_split None formed h = absurd (let built = (build_word word rest b h).1 in let both : Some built.split ≡ None = sym built.formed ∙ formed in cc)
-    by_split (Some s) formed h = by_offer s formed (offers_options func_offer s) refl (offers_kind_word func_offer (positional s 0)) refl h
+    by_split (Some s) formed h = by_offer s formed (offers_options sux_offer s) refl (offers_kind_word sux_offer (positional s 0)) refl h
 
     by_tests : (a v : Bool) → bytes_eq word (codes "build") ≡ v
-        → (if a then usage UnknownCommand else if v then offered_build func_offer (well_formed 2 (split_words rest)) (command (word ∷ rest)) else command (word ∷ rest)) ≡ build b → IsFuncPlan b.plan
+        → (if a then usage UnknownCommand else if v then offered_build sux_offer (well_formed 2 (split_words rest)) (command (word ∷ rest)) else command (word ∷ rest)) ≡ build b → IsOfferedPlan b.plan
     by_tests true v is h = absurd cc
     by_tests false true is h = by_split (well_formed 2 (split_words rest)) refl h
     by_tests false false is h = absurd (

@@ -8,7 +8,7 @@ use Rattle.sx_spec_kinds.specs.declared.Kind.TheVariants.{Func, Lcp, Lcp2, Hollo
 use Rattle.sx_spec.specs.declared.Rule.TheVariants.{BadWords, UnknownCommand, UnknownKind}
 use Rattle.sx_spec.specs.Command.{Text, Task, Split, usage, query, open_dump, show_dump, command, for_split, for_kind, positional, well_formed, split_words, split_plain}
 use Rattle.sx_spec_program.specs.Offer.{offered, offered_build, offers_options}
-use Rattle.sx_spec_program.specs.Program.{func_offer}
+use Rattle.sx_spec_program.specs.Program.{sux_offer}
 use Rattle.sx_words.specs.declared.names.Command.{Command}
 use Rattle.sx_words.specs.declared.names.Command.TheVariants.{Query, Open, Dump}
 use Rattle.sx_words.specs.Commands.{command_word, commands}
@@ -44,13 +44,13 @@ four false false false true p q r s = absurd cc
 four false false false false p q r s = refl
 
 -- no command has the word
-pub no_command : (word : Text) (words : List Text) → None ≡ find (λ name. bytes_eq (command_word name) word) commands → usage UnknownCommand ≡ offered func_offer (word ∷ words)
+pub no_command : (word : Text) (words : List Text) → None ≡ find (λ name. bytes_eq (command_word name) word) commands → usage UnknownCommand ≡ offered sux_offer (word ∷ words)
 no_command word words none =
     let each = none_found (λ name. bytes_eq (command_word name) word) commands (sym none) in
-    let any : list_any (bytes_eq word) func_offer.commands ≡ false =
+    let any : list_any (bytes_eq word) sux_offer.commands ≡ false =
     four (bytes_eq word (codes "build")) (bytes_eq word (codes "query")) (bytes_eq word (codes "open")) (bytes_eq word (codes "dump"))
     (other_way (codes "build") word each.0) (other_way (codes "query") word each.1.0) (other_way (codes "open") word each.1.1.0) (other_way (codes "dump") word each.1.1.1.0) in
-    ap (λ (b : Bool). if not b then usage UnknownCommand else if bytes_eq word (codes "build") then offered_build func_offer (well_formed 2 (split_words words)) (command (word ∷ words)) else command (word ∷ words)) (sym any)
+    ap (λ (b : Bool). if not b then usage UnknownCommand else if bytes_eq word (codes "build") then offered_build sux_offer (well_formed 2 (split_words words)) (command (word ∷ words)) else command (word ∷ words)) (sym any)
 
 -- ---- the words of `build`
 
@@ -65,13 +65,13 @@ kind_is false false false false true h s = refl
 kind_is false false false false false true s = refl
 kind_is false false false false false false s = refl
 
-offered_is : (o : Option Split) → offered_build func_offer o (for_split o (λ s. for_kind (positional s 0) (λ kind. kind_task s kind))) ≡ split_task o
+offered_is : (o : Option Split) → offered_build sux_offer o (for_split o (λ s. for_kind (positional s 0) (λ kind. kind_task s kind))) ≡ split_task o
 offered_is None = refl
 offered_is (Some s) =
-    ap (λ (t : Task). if not (offers_options func_offer s) then usage BadWords else t)
+    ap (λ (t : Task). if not (offers_options sux_offer s) then usage BadWords else t)
     (kind_is (bytes_eq (codes "func") (positional s 0)) (bytes_eq (codes "lcp") (positional s 0)) (bytes_eq (codes "lcp2") (positional s 0)) (bytes_eq (codes "hollow") (positional s 0)) (bytes_eq (codes "hollowdist") (positional s 0)) (bytes_eq (codes "zfast") (positional s 0)) s)
 
-pub build_is : (words : List Text) → offered func_offer (codes "build" ∷ words) ≡ split_task (well_formed 2 (split_words words))
+pub build_is : (words : List Text) → offered sux_offer (codes "build" ∷ words) ≡ split_task (well_formed 2 (split_words words))
 build_is words = offered_is (well_formed 2 (split_words words))
 
 -- ---- the words of the other commands
@@ -80,13 +80,13 @@ dump_is : (f : Text → Task) (name : Command) (o : Option Split) → ((dump : T
 dump_is f name None same = refl
 dump_is f name (Some s) same = sym (same (positional s 0))
 
-pub query_is : (words : List Text) → offered func_offer (codes "query" ∷ words) ≡ dump_task Query (only_word words)
+pub query_is : (words : List Text) → offered sux_offer (codes "query" ∷ words) ≡ dump_task Query (only_word words)
 query_is words = dump_is (λ dump. query dump) Query (well_formed 1 (split_plain words)) (λ _. refl)
 
-pub open_is : (words : List Text) → offered func_offer (codes "open" ∷ words) ≡ dump_task Open (only_word words)
+pub open_is : (words : List Text) → offered sux_offer (codes "open" ∷ words) ≡ dump_task Open (only_word words)
 open_is words = dump_is (λ dump. open_dump dump) Open (well_formed 1 (split_plain words)) (λ _. refl)
 
-pub show_is : (words : List Text) → offered func_offer (codes "dump" ∷ words) ≡ dump_task Dump (only_word words)
+pub show_is : (words : List Text) → offered sux_offer (codes "dump" ∷ words) ≡ dump_task Dump (only_word words)
 show_is words = dump_is (λ dump. show_dump dump) Dump (well_formed 1 (split_plain words)) (λ _. refl)
 
 -- ---- the first word and those after it
@@ -97,11 +97,11 @@ first_word (w ∷ words) word some is = ap (λ (v : Text). v ∷ words) (sym is)
 
 -- the words after the word of a command
 pub after_command : (words : List Text) (word : Text) (found name : Command) → (length words ≡ 0 → ⊥) → word ≡ get_or words 0 [] → Some found ≡ find (λ name. bytes_eq (command_word name) word) commands → found ≡ name
-    → offered func_offer (command_word name ∷ drop 1 words) ≡ offered func_offer words
+    → offered sux_offer (command_word name ∷ drop 1 words) ≡ offered sux_offer words
 after_command words word found name some is at same =
-    ap (offered func_offer) (ap (λ (v : Text). v ∷ drop 1 words) (ap command_word (sym same) ∙ word_of word found at) ∙ sym (first_word words word some is))
+    ap (offered sux_offer) (ap (λ (v : Text). v ∷ drop 1 words) (ap command_word (sym same) ∙ word_of word found at) ∙ sym (first_word words word some is))
 
 -- the words where no command has the first
 pub unknown_command : (words : List Text) (word : Text) → (length words ≡ 0 → ⊥) → word ≡ get_or words 0 [] → None ≡ find (λ name. bytes_eq (command_word name) word) commands
-    → usage UnknownCommand ≡ offered func_offer words
-unknown_command words word some is none = no_command word (drop 1 words) none ∙ ap (offered func_offer) (sym (first_word words word some is))
+    → usage UnknownCommand ≡ offered sux_offer words
+unknown_command words word some is none = no_command word (drop 1 words) none ∙ ap (offered sux_offer) (sym (first_word words word some is))

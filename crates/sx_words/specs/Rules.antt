@@ -8,7 +8,7 @@ use Rattle.sx_spec.specs.declared.Rule.TheVariants.{BadWords, UnknownKind}
 use Rattle.sx_spec.specs.Kinds.{kind_word}
 use Rattle.sx_spec.specs.Command.{Text, Task, Split, usage, build, query, open_dump, show_dump, unless, options_rule, build_task, is_given, is_value, setting, goes_with, kind_named, well_formed, split_plain, positional}
 use Rattle.sx_spec_program.specs.Offer.{offers_options}
-use Rattle.sx_spec_program.specs.Program.{func_offer}
+use Rattle.sx_spec_program.specs.Program.{sux_offer}
 use Rattle.sx_words.specs.declared.names.Command.{Command}
 use Rattle.sx_words.specs.declared.names.Command.TheVariants.{Build, Query, Open, Dump}
 
@@ -22,7 +22,7 @@ is_unfit s kind name = is_given s name && not (goes_with name kind)
 
 -- the kind, if it is offered
 abbrev pub if_offered : Kind → Option Kind
-if_offered kind = if list_any (λ offered. bytes_eq (kind_word offered) (kind_word kind)) func_offer.kinds then Some kind else None
+if_offered kind = if list_any (λ offered. bytes_eq (kind_word offered) (kind_word kind)) sux_offer.kinds then Some kind else None
 
 -- the kind with this word, if it is offered
 abbrev pub offered_kind : Text → Option Kind
@@ -40,7 +40,7 @@ offered_task s (Some kind) = kind_task s kind
 -- what `build` is to do, if its words are well formed
 abbrev pub split_task : Option Split → Task
 split_task None = usage BadWords
-split_task (Some s) = if not (offers_options func_offer s) then usage BadWords else offered_task s (offered_kind (positional s 0))
+split_task (Some s) = if not (offers_options sux_offer s) then usage BadWords else offered_task s (offered_kind (positional s 0))
 
 -- the only word, if it is a positional word
 abbrev pub only_word : List Text → Option Text

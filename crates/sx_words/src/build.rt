@@ -5,7 +5,7 @@ ghost use Rattle.sx_spec.specs.Command as usage;
 ghost use Rattle.sx_spec.specs.declared.Method.TheVariants.{Mwhc};
 ghost use Rattle.sx_spec.specs.declared.OptionName.TheVariants.{Seeds as SeedsName, Method as MethodName, Signed as SignedName, Values as ValuesName};
 ghost use Rattle.sx_spec_program.specs.Offer.{offers_options};
-ghost use Rattle.sx_spec_program.specs.Program.{func_offer};
+ghost use Rattle.sx_spec_program.specs.Program.{sux_offer};
 ghost use Rattle.sx_words.specs.Tasks.{task_of};
 ghost use Rattle.sx_words.specs.Rules.{has_bad_value, is_unfit, offered_kind, kind_task, split_task};
 
@@ -177,7 +177,7 @@ fn offered_kind(word: &str) -> Option<Kind>
 
 /// Whether all options that are given are offered.
 fn offers_all(split: &WordSplit) -> bool
-    ensures { result ≡ offers_options func_offer split.now }
+    ensures { result ≡ offers_options sux_offer split.now }
 {
     split
         .settings()

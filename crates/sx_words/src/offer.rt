@@ -5,7 +5,7 @@ ghost use Rattle.std.specs.List.{list_any};
 ghost use Rattle.std.specs.Str.{bytes_eq};
 ghost use Rattle.sx_spec.specs.Command.{same_option};
 ghost use Rattle.sx_spec.specs.Kinds.{kind_word};
-ghost use Rattle.sx_spec_program.specs.Program.{func_offer};
+ghost use Rattle.sx_spec_program.specs.Program.{sux_offer};
 
 use sx_spec::{Kind, OptionName, Rule};
 
@@ -17,7 +17,7 @@ pub const KIND_NOT_OFFERED: Rule = Rule::UnknownKind;
 
 /// Whether the option is offered.
 pub fn offers_option(name: OptionName) -> bool
-    ensures { result ≡ list_any (same_option name) func_offer.options }
+    ensures { result ≡ list_any (same_option name) sux_offer.options }
 {
     match name {
         OptionName::Seeds | OptionName::Method | OptionName::SigBits | OptionName::Values => true,
@@ -27,7 +27,7 @@ pub fn offers_option(name: OptionName) -> bool
 
 /// Whether the kind is offered.
 pub fn offers_kind(kind: Kind) -> bool
-    ensures { result ≡ list_any (λ offered. bytes_eq (kind_word offered) (kind_word kind)) func_offer.kinds }
+    ensures { result ≡ list_any (λ offered. bytes_eq (kind_word offered) (kind_word kind)) sux_offer.kinds }
 {
     match kind {
         Kind::Func => true,

@@ -2,7 +2,7 @@
 
 ghost use Rattle.std.specs.Prelude.{◌≡◌, ◌≤◌, IfOk, length, drop};
 ghost use Rattle.sx_spec_program.specs.Offer.{offered};
-ghost use Rattle.sx_spec_program.specs.Program.{func_offer};
+ghost use Rattle.sx_spec_program.specs.Program.{sux_offer};
 ghost use Rattle.sx_words.specs.Rules.{only_word, dump_task};
 ghost use Rattle.sx_words.specs.Tasks.{task_of};
 
@@ -50,7 +50,7 @@ fn read_over(alloc: Global, command: Command, words: &WordList) -> Result<Task, 
 ///
 /// Answers `Usage` with the first rule that they break. Want of memory is the only refusal.
 pub fn read_words(alloc: Global, words: &WordList) -> Result<Task, AllocError>
-    ensures { IfOk result (λ task. task_of task ≡ offered func_offer words.now) }
+    ensures { IfOk result (λ task. task_of task ≡ offered sux_offer words.now) }
 {
     if words.len() == 0 {
         return Ok(Task::Usage(Rule::NoCommand));

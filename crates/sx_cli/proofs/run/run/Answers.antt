@@ -4,7 +4,7 @@ use Rattle.sx_spec.specs.declared.Status.{Status}
 use Rattle.sx_spec.specs.Command.{Task, query, open_dump, show_dump}
 use Rattle.sx_spec.specs.Run.{Promise}
 use Rattle.sx_spec.specs.World.{World}
-use Rattle.sx_spec_program.specs.Program.{func_program}
+use Rattle.sx_spec_program.specs.Program.{sux_program}
 use Rattle.sx_words.specs.Tasks.{task_of}
 use Rattle.sx_words.proofs.Offered.{plan_fits}
 use Rattle.sx_cli.proofs.Counts.{untouched}
@@ -13,8 +13,8 @@ use Rattle.sx_cli.proofs.Refusals.{words_refused, words_memory}
 use Rattle.sx_cli.proofs.run.run.Goals as goal
 
 -- the promise of the same task
-as_task : (before after : World) (ticks : ℕ) (result : Status) (t task : Task) → t ≡ task → Promise func_program t before after ticks result → Promise func_program task before after ticks result
-as_task before after ticks result t task same p = subst (λ (x : Task). Promise func_program x before after ticks result) same p
+as_task : (before after : World) (ticks : ℕ) (result : Status) (t task : Task) → t ≡ task → Promise sux_program t before after ticks result → Promise sux_program task before after ticks result
+as_task before after ticks result t task same p = subst (λ (x : Task). Promise sux_program x before after ticks result) same p
 
 pub returns-in-Build-clause-promise : goal.returns-in-Build-clause-promise
 returns-in-Build-clause-promise g c =

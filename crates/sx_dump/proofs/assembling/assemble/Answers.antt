@@ -42,7 +42,7 @@ dump_words-requires-clause-few c =
       bytes = keys.bytes;
       as_many = c.requires.values;
       narrow = subst (λ (w : ℕ). w ≤ 64) c.least_width-width.ensures.value c.least_width-width.ensures.bound;
-      kept_few = c.requires.sig_bits;
+      kept_few = c.requires.plan.bits;
       seed_small = omega arith;
     } in
     let answer = answer_of lines c.args.values.now c.args.seed plan.sig_bits plan.method c.deref.result.now c.in_ok-sigs.sigs.items c.least_width-width.result c.in_ok-function.field-0 c.deref.ensures.value c.in_ok-sigs.ensures.signed c.least_width-width.ensures.value c.in_ok-function.ensures in
@@ -61,11 +61,11 @@ returns-in-Done c =
       bytes = keys.bytes;
       as_many = c.requires.values;
       narrow = subst (λ (w : ℕ). w ≤ 64) c.least_width-width.ensures.value c.least_width-width.ensures.bound;
-      kept_few = c.requires.sig_bits;
+      kept_few = c.requires.plan.bits;
       seed_small = omega arith;
     } in
     let answer = answer_of lines c.args.values.now c.args.seed plan.sig_bits plan.method c.deref.result.now c.in_ok-sigs.sigs.items c.least_width-width.result c.in_ok-function.field-0 c.deref.ensures.value c.in_ok-sigs.ensures.signed c.least_width-width.ensures.value c.in_ok-function.ensures in
-    is_dump lines c.args.values.now c.args.seed plan c.in-Done.function c.in_ok-dump_words-in-Done.field-0.items c.requires.kind c.requires.unsigned c.requires.buckets c.requires.handles sources
+    is_dump lines c.args.values.now c.args.seed plan c.in-Done.function c.in_ok-dump_words-in-Done.field-0.items c.requires.plan.kind c.requires.plan.unsigned c.requires.plan.buckets c.requires.plan.handles sources
     (subst (IsAnswer plan.method 64 (least_width c.args.values.now) (zip (map (key_signature c.args.seed plan.sig_bits) lines) c.args.values.now)) c.in-Done.is answer) c.in_ok-dump_words-in-Done.ensures
 
 pub returns-in-Twins : goal.returns-in-Twins
@@ -76,7 +76,7 @@ returns-in-Twins c =
     let answer = answer_of lines values c.args.seed plan.sig_bits plan.method c.deref.result.now c.in_ok-sigs.sigs.items c.least_width-width.result c.in_ok-function.field-0 c.deref.ensures.value c.in_ok-sigs.ensures.signed c.least_width-width.ensures.value c.in_ok-function.ensures in
     let here = subst (IsAnswer plan.method 64 (least_width values) (zip (map (key_signature c.args.seed plan.sig_bits) lines) values)) c.in-Twins.is answer in
     subst (IsAssembled lines values plan c.args.seed) (sym c.seed_failed.ensures)
-    (record { failure = is_failure lines values c.args.seed plan (twins c.in-Twins.first c.in-Twins.second) c.requires.kind c.requires.unsigned c.requires.buckets c.requires.handles here; kinds = tt })
+    (record { failure = is_failure lines values c.args.seed plan (twins c.in-Twins.first c.in-Twins.second) c.requires.plan.kind c.requires.plan.unsigned c.requires.plan.buckets c.requires.plan.handles here; kinds = tt })
 
 pub returns : goal.returns
 returns c =
@@ -86,4 +86,4 @@ returns c =
     let answer = answer_of lines values c.args.seed plan.sig_bits plan.method c.deref.result.now c.in_ok-sigs.sigs.items c.least_width-width.result c.in_ok-function.field-0 c.deref.ensures.value c.in_ok-sigs.ensures.signed c.least_width-width.ensures.value c.in_ok-function.ensures in
     let here = subst (IsAnswer plan.method 64 (least_width values) (zip (map (key_signature c.args.seed plan.sig_bits) lines) values)) c.in-Stuck.is answer in
     subst (IsAssembled lines values plan c.args.seed) (sym c.seed_failed-in-Stuck.ensures)
-    (record { failure = is_failure lines values c.args.seed plan (stuck c.in-Stuck.chunk (map witness_numbers c.in-Stuck.witnesses.items)) c.requires.kind c.requires.unsigned c.requires.buckets c.requires.handles here.0; kinds = here.1 })
+    (record { failure = is_failure lines values c.args.seed plan (stuck c.in-Stuck.chunk (map witness_numbers c.in-Stuck.witnesses.items)) c.requires.plan.kind c.requires.plan.unsigned c.requires.plan.buckets c.requires.plan.handles here.0; kinds = here.1 })
