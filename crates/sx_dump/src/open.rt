@@ -121,7 +121,8 @@ fn checked(words: &[u64], bytes: u64) -> Result<Section, u8>
 }
 
 /// Opens a file of so many bytes by its words, as a dump of a static function that answers from a
-/// bank of the same words. The last word is filled up with zero bytes. No memory is taken.
+/// bank of the same words. Where the bytes don't fill the last word, check 1 fails, whatever stands
+/// in the rest of it. No memory is taken.
 ///
 /// # Errors
 /// The number of the first check that fails: 1 to 10 of the file's size and its header, where other
