@@ -244,7 +244,8 @@ fn each_message_fails(rt: &impl Abort, alloc: Global, job: &Job<'_>) -> Result<(
         assert!(rt; ended.err.bytes().ends_with(note));
         let told = &ended.err.bytes()[..ended.err.bytes().len() - note.len()];
         assert!(rt; due.err.bytes().starts_with(told));
-        assert_eq!(rt; told.len() as u64, 8 * (at - 1));
+        assert_eq!(rt; told.len() % 8, 0);
+        assert_eq!(rt; (told.len() / 8) as u64, at - 1);
         assert!(rt; dump_in(&ended.files) == job.dump);
         assert_eq!(rt; ended.out.calls(), due.out.calls());
     }
