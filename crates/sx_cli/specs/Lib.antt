@@ -11,3 +11,4 @@ pub mod Storing
 pub mod Telling
 pub mod ValueLines
 pub mod Writing
+pub mod Objects

@@ -8,6 +8,7 @@ ghost use Rattle.sx_spec.specs.Messages.{key_text, values_text, memory_text};
 ghost use Rattle.sx_spec.specs.Run.{Promise};
 ghost use Rattle.sx_spec.specs.World.{world, KeepsFiles};
 ghost use Rattle.sx_spec_program.specs.Program.{sux_program, IsOfferedPlan};
+ghost use Rattle.sx_cli.specs.Objects.{world_of, outside_of, TellsOrWants};
 ghost use Rattle.sx_cli.specs.Building.{build_of};
 ghost use Rattle.sx_text.specs.Reasons.{fault_of};
 ghost use Rattle.sx_cli.specs.Storing.{Stores, GivenEnds};
@@ -31,8 +32,8 @@ use sx_words::BuildTask;
 
 /// Tells why a line is no key.
 fn refuse_key<E: Sink>(alloc: Global, err: &mut E, line: u64, reason: KeyReason) -> Status
-    ensures told { Tells (key_text (fault_of line reason)) BadInput (E.written err.old) (E.written err.new) (E.faults err.old) (E.faults err.new) result
-        ⊎ Tells memory_text Memory (E.written err.old) (E.written err.new) (E.faults err.old) (E.faults err.new) result }
+    ensures told { TellsOrWants E.Sink (key_text (fault_of line reason)) BadInput
+        err.old err.new result }
     ensures counts { StaysUnless (is_fault result) (E.faults err.old) (E.faults err.new) }
 {
     match key_message(alloc, line, reason) {
@@ -43,8 +44,8 @@ fn refuse_key<E: Sink>(alloc: Global, err: &mut E, line: u64, reason: KeyReason)
 
 /// Tells what is wrong with a values file for so many keys.
 fn refuse_values<E: Sink>(alloc: Global, err: &mut E, keys: u32, fault: ValuesFault) -> Status
-    ensures told { Tells (values_text keys (values_fault_of fault)) BadInput (E.written err.old) (E.written err.new) (E.faults err.old) (E.faults err.new) result
-        ⊎ Tells memory_text Memory (E.written err.old) (E.written err.new) (E.faults err.old) (E.faults err.new) result }
+    ensures told { TellsOrWants E.Sink (values_text keys (values_fault_of fault)) BadInput
+        err.old err.new result }
     ensures counts { StaysUnless (is_fault result) (E.faults err.old) (E.faults err.new) }
 {
     match values_message(alloc, keys, fault) {
@@ -61,7 +62,8 @@ fn values_for<F: Shelf>(
     keys: u32,
 ) -> Result<Vec<u64>, ValuesStop>
     requires { F.in_use files.old ≡ idle }
-    ensures values { MatchResult result (λ v. Given task.now.values keys (F.files files.old) v.items)
+    ensures values { MatchResult result
+        (λ v. Given task.now.values keys (F.files files.old) v.items)
         (StopsGiving task.now.values keys (F.files files.old) (F.faults files.old) (F.faults files.new)) }
     ensures files { KeepsFiles (F.files files.old) (F.files files.new) }
     ensures counts { StaysUnless (values_failed result) (F.faults files.old) (F.faults files.new) }
@@ -87,8 +89,8 @@ fn store<F: Shelf, O: Sink, E: Sink>(
 ) -> Status
     requires { F.in_use files.old ≡ idle }
     ensures stored { Stores name.now words.now line.now
-        (record { files = F.files files.old; out = O.written out.old; err = E.written err.old; shelf_faults = F.faults files.old; out_faults = O.faults out.old; err_faults = E.faults err.old })
-        (record { files = F.files files.new; out = O.written out.new; err = E.written err.new; shelf_faults = F.faults files.new; out_faults = O.faults out.new; err_faults = E.faults err.new })
+        (outside_of F.Shelf O.Sink E.Sink files.old out.old err.old)
+        (outside_of F.Shelf O.Sink E.Sink files.new out.new err.new)
         result }
     ensures closed { F.in_use files.new ≡ idle }
     ensures counts { StaysUnless (is_fault result) (F.faults files.old) (F.faults files.new) }
@@ -118,8 +120,8 @@ fn build_given<F: Shelf, O: Sink, E: Sink>(
     requires values { length values.now ≡ length keys.now.lines }
     requires plan { IsOfferedPlan task.now.plan }
     ensures ends { GivenEnds (build_of task.now) keys.now.lines values.now
-        (record { files = F.files files.old; out = O.written out.old; err = E.written err.old; shelf_faults = F.faults files.old; out_faults = O.faults out.old; err_faults = E.faults err.old })
-        (record { files = F.files files.new; out = O.written out.new; err = E.written err.new; shelf_faults = F.faults files.new; out_faults = O.faults out.new; err_faults = E.faults err.new })
+        (outside_of F.Shelf O.Sink E.Sink files.old out.old err.old)
+        (outside_of F.Shelf O.Sink E.Sink files.new out.new err.new)
         result }
     ensures closed { F.in_use files.new ≡ idle }
     ensures counts { StaysUnless (is_fault result) (F.faults files.old) (F.faults files.new) }
@@ -153,8 +155,8 @@ pub fn build<F: Shelf, S: Source, O: Sink, E: Sink>(
     requires idle { F.in_use files.old ≡ idle }
     requires plan { IsOfferedPlan task.now.plan }
     ensures promise { (ticks : ℕ) → Promise sux_program (build_of_task (build_of task.now))
-        (world (F.files files.old) (S.left input.old) (O.written out.old) (E.written err.old) (F.faults files.old) (S.faults input.old) (O.faults out.old) (E.faults err.old))
-        (world (F.files files.new) (S.left input.new) (O.written out.new) (E.written err.new) (F.faults files.new) (S.faults input.new) (O.faults out.new) (E.faults err.new))
+        (world_of F.Shelf S.Source O.Sink E.Sink files.old input.old out.old err.old)
+        (world_of F.Shelf S.Source O.Sink E.Sink files.new input.new out.new err.new)
         ticks result }
     ensures closed { F.in_use files.new ≡ idle }
 {

@@ -14,8 +14,10 @@ use sx_edge::source::Failed;
 /// bytes; every other file is as it was, and no file is left in use.
 pub fn write_dump<F: Shelf>(files: &mut F, name: &str, words: &[u64]) -> Result<(), Failed>
     requires { F.in_use files.old ≡ idle }
-    ensures ok { OnOk result (SetsFile name.now (words_bytes words.now) (F.files files.old) (F.files files.new)) }
-    ensures failed { OnErr result (SetsPart name.now (words_bytes words.now) (F.files files.old) (F.files files.new)) }
+    ensures ok { OnOk result
+        (SetsFile name.now (words_bytes words.now) (F.files files.old) (F.files files.new)) }
+    ensures failed { OnErr result
+        (SetsPart name.now (words_bytes words.now) (F.files files.old) (F.files files.new)) }
     ensures closed { F.in_use files.new ≡ idle }
     ensures cause { HasCause (F.faults files.old) (F.faults files.new) result }
 {

@@ -59,7 +59,8 @@ fn read_piece<F: Shelf>(
         words.old.items words.new.items (length piece.old) count) }
     ensures stays { F.in_use files.new ≡ reading }
     ensures files { KeepsFiles (F.files files.old) (F.files files.new) }
-    ensures failed { result ≡ Err ReadFault.Failed → Rose (F.faults files.old) (F.faults files.new) }
+    ensures failed { result ≡ Err ReadFault.Failed
+        → Rose (F.faults files.old) (F.faults files.new) }
     ensures counts { StaysUnless (file_failed result) (F.faults files.old) (F.faults files.new) }
 {
     match fill_buffer(files, piece) {
@@ -79,7 +80,8 @@ pub fn read_words<F: Shelf>(alloc: Global, files: &mut F) -> Result<DumpFile, Re
         ReadsWords (F.rest files.old) file.words.items file.bytes) }
     ensures stays { F.in_use files.new ≡ reading }
     ensures files { KeepsFiles (F.files files.old) (F.files files.new) }
-    ensures failed { result ≡ Err ReadFault.Failed → Rose (F.faults files.old) (F.faults files.new) }
+    ensures failed { result ≡ Err ReadFault.Failed
+        → Rose (F.faults files.old) (F.faults files.new) }
     ensures counts { StaysUnless (file_failed result) (F.faults files.old) (F.faults files.new) }
 {
     let mut words = Vec::new(alloc);

@@ -54,7 +54,9 @@ fn push_key(keys: &mut KeyList, number: u64, line: &[u8]) -> Result<(), KeysStop
 
 /// Reads the lines of input as keys, up to the first that is none.
 pub fn read_keys<S: Source>(alloc: Global, input: &mut S) -> Result<KeyList, KeysStop>
-    ensures keys { MatchResult result (ReadsKeys (S.left input.old) (S.left input.new)) (StopsKeys (S.left input.old) (S.left input.new) (S.faults input.old) (S.faults input.new)) }
+    ensures keys { MatchResult result
+        (ReadsKeys (S.left input.old) (S.left input.new))
+        (StopsKeys (S.left input.old) (S.left input.new) (S.faults input.old) (S.faults input.new)) }
     ensures counts { StaysUnless (keys_failed result) (S.faults input.old) (S.faults input.new) }
 {
     let mut reader = match LineReader::new(alloc, MAX_LINE) {

@@ -7,6 +7,7 @@ ghost use Rattle.sx_spec.specs.Command.{Text};
 ghost use Rattle.sx_spec.specs.Messages.{check_text, memory_text};
 ghost use Rattle.sx_spec.specs.World.{Files, KeepsFiles};
 ghost use Rattle.sx_dump.specs.Opening.{dump_in};
+ghost use Rattle.sx_cli.specs.Objects.{TellsOrWants, IsQuietOn};
 ghost use Rattle.sx_cli.specs.FileWords.{file_failed};
 ghost use Rattle.sx_cli.specs.Opening.{ends_in_fault, IsFound, IsFile, IsOpened, StopsAtFile, StopsAtCheck};
 ghost use Rattle.sx_cli.specs.Telling.{Tells};
@@ -31,7 +32,8 @@ fn read_dump<F: Shelf>(
     requires { F.in_use files.old ≡ idle }
     ensures found { IfOk result (IsFound name.now (F.files files.old)) }
     ensures files { KeepsFiles (F.files files.old) (F.files files.new) }
-    ensures failed { result ≡ Err ReadFault.Failed → Rose (F.faults files.old) (F.faults files.new) }
+    ensures failed { result ≡ Err ReadFault.Failed
+        → Rose (F.faults files.old) (F.faults files.new) }
     ensures counts { StaysUnless (file_failed result) (F.faults files.old) (F.faults files.new) }
     ensures closed { F.in_use files.new ≡ idle }
 {
@@ -59,9 +61,10 @@ pub fn find_dump<F: Shelf, E: Sink>(
     err: &mut E,
 ) -> Result<DumpFile, Status>
     requires { F.in_use files.old ≡ idle }
-    ensures found { MatchResult result (λ f. IsFile name.now (F.files files.old) f.words.items f.bytes)
+    ensures found { MatchResult result
+        (λ f. IsFile name.now (F.files files.old) f.words.items f.bytes)
         (StopsAtFile name.now (F.files files.old) (F.faults files.old) (F.faults files.new) (E.written err.old) (E.written err.new) (E.faults err.old) (E.faults err.new)) }
-    ensures quiet { OnOk result ((E.written err.new ≡ E.written err.old) × (E.faults err.new ≡ E.faults err.old)) }
+    ensures quiet { OnOk result (IsQuietOn E.Sink err.old err.new) }
     ensures files { KeepsFiles (F.files files.old) (F.files files.new) }
     ensures closed { F.in_use files.new ≡ idle }
     ensures counts { StaysUnless (ends_in_fault result) (F.faults files.old) (F.faults files.new) }
@@ -77,8 +80,7 @@ pub fn find_dump<F: Shelf, E: Sink>(
 
 /// Tells which check a file fails.
 fn refuse_check<E: Sink>(alloc: Global, err: &mut E, check: u8) -> Status
-    ensures told { Tells (check_text check) BadDump (E.written err.old) (E.written err.new) (E.faults err.old) (E.faults err.new) result
-        ⊎ Tells memory_text Memory (E.written err.old) (E.written err.new) (E.faults err.old) (E.faults err.new) result }
+    ensures told { TellsOrWants E.Sink (check_text check) BadDump err.old err.new result }
     ensures counts { StaysUnless (is_fault result) (E.faults err.old) (E.faults err.new) }
 {
     match check_message(alloc, check) {
@@ -93,10 +95,11 @@ pub fn check_dump<'a, E: Sink>(
     file: &'a DumpFile,
     err: &mut E,
 ) -> Result<Dump<Words<'a>>, Status>
-    ensures opened { (name : Text) (files : Option Files) → IsFile name files file.now.words.items file.now.bytes
+    ensures opened { (name : Text) (files : Option Files)
+        → IsFile name files file.now.words.items file.now.bytes
         → MatchResult result (λ d. IsOpened name files (dump_in d.bank.words.now))
         (StopsAtCheck name files (E.written err.old) (E.written err.new) (E.faults err.old) (E.faults err.new)) }
-    ensures quiet { OnOk result ((E.written err.new ≡ E.written err.old) × (E.faults err.new ≡ E.faults err.old)) }
+    ensures quiet { OnOk result (IsQuietOn E.Sink err.old err.new) }
     ensures counts_err { StaysUnless (ends_in_fault result) (E.faults err.old) (E.faults err.new) }
 {
     match open_dump(alloc, &file.words, file.bytes, Words::new(&file.words)) {

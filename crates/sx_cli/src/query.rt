@@ -8,7 +8,7 @@ ghost use Rattle.sx_spec.specs.Messages.{message};
 ghost use Rattle.sx_spec.specs.Run.{Promise};
 ghost use Rattle.sx_spec.specs.World.{world};
 ghost use Rattle.sx_spec_program.specs.Program.{sux_program};
-ghost use Rattle.sx_cli.specs.Serving.{Ends};
+ghost use Rattle.sx_cli.specs.Objects.{world_of, EndsOn, TellsOn};
 ghost use Rattle.sx_cli.specs.Telling.{Tells};
 
 use crate::keys::MAX_LINE;
@@ -29,7 +29,8 @@ use sx_text::buffer::TextBuffer;
 fn refuse_line<E: Sink>(text: &mut TextBuffer, err: &mut E, line: u64, told: &str) -> Status
     requires empty { text.old ≡ [] }
     requires short { length told.now ≤ 64 }
-    ensures told { Tells (message (codes "query line " ∷ decimal line ∷ told.now ∷ [])) BadInput (E.written err.old) (E.written err.new) (E.faults err.old) (E.faults err.new) result }
+    ensures told { TellsOn E.Sink (message (codes "query line " ∷ decimal line ∷ told.now ∷ [])) BadInput
+        err.old err.new result }
     ensures counts { StaysUnless (is_fault result) (E.faults err.old) (E.faults err.new) }
 {
     text.push(b"sux: query line ");
@@ -42,7 +43,7 @@ fn refuse_line<E: Sink>(text: &mut TextBuffer, err: &mut E, line: u64, told: &st
 /// Ends a query whose lines came to this.
 fn end<E: Sink>(served: Served, text: &mut TextBuffer, err: &mut E) -> Status
     requires empty { served ≢ Served.OutputFailed → text.old ≡ [] }
-    ensures ends { Ends served (E.written err.old) (E.written err.new) (E.faults err.old) (E.faults err.new) result }
+    ensures ends { EndsOn E.Sink served err.old err.new result }
     ensures counts { StaysUnless (is_fault result) (E.faults err.old) (E.faults err.new) }
 {
     match served {
@@ -68,8 +69,8 @@ pub fn query<F: Shelf, S: Source, O: Sink, E: Sink, L: Ledger>(
 ) -> Status
     requires { F.in_use files.old ≡ idle }
     ensures promise { Promise sux_program (query_of name.now)
-        (world (F.files files.old) (S.left input.old) (O.written out.old) (E.written err.old) (F.faults files.old) (S.faults input.old) (O.faults out.old) (E.faults err.old))
-        (world (F.files files.new) (S.left input.new) (O.written out.new) (E.written err.new) (F.faults files.new) (S.faults input.new) (O.faults out.new) (E.faults err.new))
+        (world_of F.Shelf S.Source O.Sink E.Sink files.old input.old out.old err.old)
+        (world_of F.Shelf S.Source O.Sink E.Sink files.new input.new out.new err.new)
         (steps.new - steps.old) result }
     ensures closed { F.in_use files.new ≡ idle }
     ensures counted { steps.old ≤ steps.new }

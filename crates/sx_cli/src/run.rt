@@ -8,6 +8,7 @@ ghost use Rattle.sx_spec.specs.Run.{Promise};
 ghost use Rattle.sx_spec.specs.World.{world};
 ghost use Rattle.sx_spec_program.specs.Offer.{offered};
 ghost use Rattle.sx_spec_program.specs.Program.{sux_offer, sux_program};
+ghost use Rattle.sx_cli.specs.Objects.{world_of, TellsOrWants};
 ghost use Rattle.sx_cli.specs.Telling.{Tells};
 
 use crate::build::build;
@@ -27,8 +28,7 @@ use sx_words::{Task, read_words};
 
 /// Tells which rule of usage the words break.
 fn refuse_words<E: Sink>(alloc: Global, err: &mut E, rule: Rule) -> Status
-    ensures told { Tells (usage_text rule) Usage (E.written err.old) (E.written err.new) (E.faults err.old) (E.faults err.new) result
-        ⊎ Tells memory_text Memory (E.written err.old) (E.written err.new) (E.faults err.old) (E.faults err.new) result }
+    ensures told { TellsOrWants E.Sink (usage_text rule) Usage err.old err.new result }
     ensures counts { StaysUnless (is_fault result) (E.faults err.old) (E.faults err.new) }
 {
     match usage_message(alloc, rule) {
@@ -54,8 +54,8 @@ pub fn run<F: Shelf, S: Source, O: Sink, E: Sink, L: Ledger>(
 ) -> Status
     requires { F.in_use files.old ≡ idle }
     ensures promise { Promise sux_program (offered sux_offer words.now)
-        (world (F.files files.old) (S.left input.old) (O.written out.old) (E.written err.old) (F.faults files.old) (S.faults input.old) (O.faults out.old) (E.faults err.old))
-        (world (F.files files.new) (S.left input.new) (O.written out.new) (E.written err.new) (F.faults files.new) (S.faults input.new) (O.faults out.new) (E.faults err.new))
+        (world_of F.Shelf S.Source O.Sink E.Sink files.old input.old out.old err.old)
+        (world_of F.Shelf S.Source O.Sink E.Sink files.new input.new out.new err.new)
         (steps.new - steps.old) result }
     ensures closed { F.in_use files.new ≡ idle }
     ensures counted { steps.old ≤ steps.new }

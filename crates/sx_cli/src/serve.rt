@@ -4,7 +4,8 @@ ghost use Rattle.sx_edge.specs.Parts.{AppendsPrefix};
 ghost use Rattle.sx_spec.specs.Causes.{HasCause, StaysUnless};
 ghost use Rattle.sx_spec.specs.Reply.{answers, reads};
 ghost use Rattle.sx_dump.specs.Opening.{dump_in};
-ghost use Rattle.sx_cli.specs.Serving.{input_failed, out_failed, ServedTo, WritesHeld, Finishes};
+ghost use Rattle.sx_cli.specs.Objects.{streams_of, FinishesOn};
+ghost use Rattle.sx_cli.specs.Serving.{input_failed, out_failed, ServedTo, WritesHeld};
 
 use crate::keys::MAX_LINE;
 use std::sync::ledger::Ledger;
@@ -40,8 +41,10 @@ pub enum Served {
 /// Writes what is held of the answers, where the next line can't be told without a read or the
 /// buffer is full.
 fn write_held<O: Sink>(replies: &mut TextBuffer, ready: bool, out: &mut O) -> Result<(), Failed>
-    ensures ok { OnOk result (WritesHeld replies.old replies.new ready (O.written out.old) (O.written out.new)) }
-    ensures failed { OnErr result (AppendsPrefix (O.written out.old) (O.written out.new) replies.old) }
+    ensures ok { OnOk result
+        (WritesHeld replies.old replies.new ready (O.written out.old) (O.written out.new)) }
+    ensures failed { OnErr result
+        (AppendsPrefix (O.written out.old) (O.written out.new) replies.old) }
     ensures cause { HasCause (O.faults out.old) (O.faults out.new) result }
 {
     if ready && !replies.is_full() {
@@ -59,7 +62,8 @@ fn put_reply<B: WordBank + Copy, L: Ledger>(
 )
     requires short { length line.now ≤ 8191 }
     requires room { length replies.old ≤ 65494 }
-    ensures put { replies.new ≡ replies.old ++ answers (dump_in (B.words_of dump.now.bank)) (line.now ∷ []) }
+    ensures put { replies.new
+        ≡ replies.old ++ answers (dump_in (B.words_of dump.now.bank)) (line.now ∷ []) }
     ensures counted { steps.old ≤ steps.new }
     ensures cost { steps.new ≤ steps.old + reads (dump_in (B.words_of dump.now.bank)) line.now }
 {
@@ -69,7 +73,7 @@ fn put_reply<B: WordBank + Copy, L: Ledger>(
 
 /// Writes the last answers.
 fn finish<O: Sink>(replies: &mut TextBuffer, out: &mut O, served: Served) -> Served
-    ensures finished { Finishes replies.old (O.written out.old) (O.written out.new) (O.faults out.old) (O.faults out.new) served result }
+    ensures finished { FinishesOn O.Sink replies.old out.old out.new served result }
     ensures counts { StaysUnless (out_failed result) (O.faults out.old) (O.faults out.new) }
     ensures empty { result ≢ Served.OutputFailed → replies.new ≡ [] }
 {
@@ -89,11 +93,12 @@ pub fn serve<B: WordBank + Copy, S: Source, O: Sink, L: Ledger>(
     out: &mut O,
     steps: &mut Steps<L>,
 ) -> Served
-    requires fresh { reader.old ≡ record { max = 8191; number = 0; held = []; ended = false; fault = None; line = None } }
+    requires fresh { reader.old
+        ≡ record { max = 8191; number = 0; held = []; ended = false; fault = None; line = None } }
     requires empty { replies.old ≡ [] }
     ensures served { ServedTo (dump_in (B.words_of dump.now.bank))
-        (record { input = S.left input.old; out = O.written out.old; input_faults = S.faults input.old; out_faults = O.faults out.old })
-        (record { input = S.left input.new; out = O.written out.new; input_faults = S.faults input.new; out_faults = O.faults out.new })
+        (streams_of S.Source O.Sink input.old out.old)
+        (streams_of S.Source O.Sink input.new out.new)
         (steps.new - steps.old) result }
     ensures empty { result ≢ Served.OutputFailed → replies.new ≡ [] }
     ensures counted { steps.old ≤ steps.new }

@@ -8,6 +8,7 @@ ghost use Rattle.sx_spec.specs.Show.{dump_text};
 ghost use Rattle.sx_spec.specs.World.{world};
 ghost use Rattle.sx_spec_program.specs.Program.{sux_program};
 ghost use Rattle.sx_dump.specs.Opening.{dump_in};
+ghost use Rattle.sx_cli.specs.Objects.{world_with, ShowsOn};
 ghost use Rattle.sx_cli.specs.Showing.{Shows, wanted_task};
 
 use crate::open::{check_dump, find_dump};
@@ -36,7 +37,8 @@ fn write_line<B: WordBank + Copy, O: Sink, E: Sink>(
     out: &mut O,
     err: &mut E,
 ) -> Status
-    ensures shown { Shows (opened_line (dump_in (B.words_of dump.now.bank))) (O.written out.old) (O.written out.new) (O.faults out.old) (O.faults out.new) (E.written err.old) (E.written err.new) (E.faults err.old) (E.faults err.new) result }
+    ensures shown { ShowsOn O.Sink E.Sink (opened_line (dump_in (B.words_of dump.now.bank)))
+        out.old out.new err.old err.new result }
     ensures counts { StaysUnless (is_fault result) (O.faults out.old) (O.faults out.new) }
     ensures counts_err { StaysUnless (is_fault result) (E.faults err.old) (E.faults err.new) }
 {
@@ -55,7 +57,8 @@ fn write_whole<B: WordBank + Copy, O: Sink, E: Sink>(
     out: &mut O,
     err: &mut E,
 ) -> Status
-    ensures shown { Shows (dump_text (dump_in (B.words_of dump.now.bank))) (O.written out.old) (O.written out.new) (O.faults out.old) (O.faults out.new) (E.written err.old) (E.written err.new) (E.faults err.old) (E.faults err.new) result }
+    ensures shown { ShowsOn O.Sink E.Sink (dump_text (dump_in (B.words_of dump.now.bank)))
+        out.old out.new err.old err.new result }
     ensures counts { StaysUnless (is_fault result) (O.faults out.old) (O.faults out.new) }
     ensures counts_err { StaysUnless (is_fault result) (E.faults err.old) (E.faults err.new) }
 {
@@ -75,9 +78,10 @@ pub fn show<F: Shelf, O: Sink, E: Sink>(
     err: &mut E,
 ) -> Status
     requires { F.in_use files.old ≡ idle }
-    ensures promise { (input : Option (List ℕ)) (input_faults ticks : ℕ) → Promise sux_program (wanted_task wanted name.now)
-        (world (F.files files.old) input (O.written out.old) (E.written err.old) (F.faults files.old) input_faults (O.faults out.old) (E.faults err.old))
-        (world (F.files files.new) input (O.written out.new) (E.written err.new) (F.faults files.new) input_faults (O.faults out.new) (E.faults err.new))
+    ensures promise { (input : Option (List ℕ)) (input_faults ticks : ℕ)
+        → Promise sux_program (wanted_task wanted name.now)
+        (world_with F.Shelf O.Sink E.Sink input input_faults files.old out.old err.old)
+        (world_with F.Shelf O.Sink E.Sink input input_faults files.new out.new err.new)
         ticks result }
     ensures closed { F.in_use files.new ≡ idle }
 {

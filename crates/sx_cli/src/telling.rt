@@ -3,6 +3,7 @@ ghost use Rattle.std.specs.Prelude.{◌≡◌, ◌≢◌, ◌≤◌};
 ghost use Rattle.sx_spec.specs.Causes.{StaysUnless, is_fault};
 ghost use Rattle.sx_spec.specs.Messages.{fault_text, memory_text};
 ghost use Rattle.sx_spec.specs.declared.Status.TheVariants.{Memory};
+ghost use Rattle.sx_cli.specs.Objects.{TellsOn, FailsOn};
 ghost use Rattle.sx_cli.specs.Telling.{Tells, Fails, place_of};
 
 use sx_edge::sink::{Sink, write_all};
@@ -33,7 +34,7 @@ fn fault_message(place: Place) -> &'static str
 
 /// Tells that a call on this object failed. A further failure changes nothing.
 pub fn fail<E: Sink>(err: &mut E, place: Place) -> Status
-    ensures told { Fails (place_of place) (E.written err.old) (E.written err.new) (E.faults err.old) (E.faults err.new) result }
+    ensures told { FailsOn E.Sink (place_of place) err.old err.new result }
     ensures counts { StaysUnless (is_fault result) (E.faults err.old) (E.faults err.new) }
 {
     match write_all(err, fault_message(place).as_bytes()) {
@@ -45,7 +46,7 @@ pub fn fail<E: Sink>(err: &mut E, place: Place) -> Status
 /// Writes the message that goes with a status. Where the write fails, the status is `Fault`, and
 /// that is told as far as it goes.
 pub fn tell<E: Sink>(err: &mut E, text: &[u8], status: Status) -> Status
-    ensures told { Tells text.now status (E.written err.old) (E.written err.new) (E.faults err.old) (E.faults err.new) result }
+    ensures told { TellsOn E.Sink text.now status err.old err.new result }
     ensures counts { StaysUnless (is_fault result) (E.faults err.old) (E.faults err.new) }
 {
     match write_all(err, text) {
@@ -56,7 +57,7 @@ pub fn tell<E: Sink>(err: &mut E, text: &[u8], status: Status) -> Status
 
 /// Tells that memory is wanting.
 pub fn tell_memory<E: Sink>(err: &mut E) -> Status
-    ensures told { Tells memory_text Memory (E.written err.old) (E.written err.new) (E.faults err.old) (E.faults err.new) result }
+    ensures told { TellsOn E.Sink memory_text Memory err.old err.new result }
     ensures counts { StaysUnless (is_fault result) (E.faults err.old) (E.faults err.new) }
 {
     tell(err, b"sux: no memory\n", Status::Memory)

@@ -49,7 +49,9 @@ fn long_line(keys: u32, line: u64) -> ValuesStop
 
 /// Puts the value on a line behind the others, or says why it is none.
 fn push_value(values: &mut Vec<u64>, keys: u32, line: u64, text: &[u8]) -> Result<(), ValuesStop>
-    ensures { MatchResult result (λ _. PutsValue keys line text.now values.old.items values.new.items) (StopsValue keys line text.now) }
+    ensures { MatchResult result
+        (λ _. PutsValue keys line text.now values.old.items values.new.items)
+        (StopsValue keys line text.now) }
 {
     if line > u64::from(keys) {
         return Err(ValuesStop::Refused(ValuesFault::MoreThanKeys { line }));
@@ -66,7 +68,9 @@ fn push_value(values: &mut Vec<u64>, keys: u32, line: u64, text: &[u8]) -> Resul
 /// The values that were read, if there is one for each key.
 fn enough(values: Vec<u64>, keys: u32) -> Result<Vec<u64>, ValuesStop>
     requires { length values.items ≤ keys }
-    ensures { MatchResult result (λ v. (v.items ≡ values.items) × (length values.items ≡ keys)) (IsTooFew keys (length values.items)) }
+    ensures { MatchResult result
+        (λ v. (v.items ≡ values.items) × (length values.items ≡ keys))
+        (IsTooFew keys (length values.items)) }
 {
     let count = values.len() as u64;
     if count < u64::from(keys) {
@@ -78,7 +82,9 @@ fn enough(values: Vec<u64>, keys: u32) -> Result<Vec<u64>, ValuesStop>
 /// Reads the lines of the file being read as values of so many keys, up to the first that is refused.
 fn read_lines<F: Shelf>(alloc: Global, keys: u32, files: &mut F) -> Result<Vec<u64>, ValuesStop>
     requires { F.in_use files.old ≡ reading }
-    ensures values { MatchResult result (λ v. ReadsValues keys (F.rest files.old) v.items) (StopsLines keys (F.rest files.old) (F.faults files.old) (F.faults files.new)) }
+    ensures values { MatchResult result
+        (λ v. ReadsValues keys (F.rest files.old) v.items)
+        (StopsLines keys (F.rest files.old) (F.faults files.old) (F.faults files.new)) }
     ensures counts { StaysUnless (values_failed result) (F.faults files.old) (F.faults files.new) }
     ensures stays { F.in_use files.new ≡ reading }
     ensures files { KeepsFiles (F.files files.old) (F.files files.new) }
@@ -112,7 +118,9 @@ pub fn read_values<F: Shelf>(
     keys: u32,
 ) -> Result<Vec<u64>, ValuesStop>
     requires { F.in_use files.old ≡ idle }
-    ensures values { MatchResult result (λ v. GivesFile keys name.now (F.files files.old) v.items) (StopsFile keys name.now (F.files files.old) (F.faults files.old) (F.faults files.new)) }
+    ensures values { MatchResult result
+        (λ v. GivesFile keys name.now (F.files files.old) v.items)
+        (StopsFile keys name.now (F.files files.old) (F.faults files.old) (F.faults files.new)) }
     ensures files { KeepsFiles (F.files files.old) (F.files files.new) }
     ensures counts { StaysUnless (values_failed result) (F.faults files.old) (F.faults files.new) }
     ensures closed { F.in_use files.new ≡ idle }

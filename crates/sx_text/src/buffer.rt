@@ -86,7 +86,8 @@ impl TextBuffer {
     #[inline(always)]
     pub fn push_reply(&mut self, reply: i128)
         requires room { length self.old + 41 ≤ 65536 }
-        ensures value { (r : Option ℕ) → reply ≡ reply_number r → self.new ≡ self.old ++ reply_text r }
+        ensures value { (r : Option ℕ)
+            → reply ≡ reply_number r → self.new ≡ self.old ++ reply_text r }
         ensures short { length self.new ≤ length self.old + 41 }
     {
         match u64::try_from(reply) {
@@ -98,7 +99,8 @@ impl TextBuffer {
     // A reply that isn't a number of 64 bits.
     fn push_wide(&mut self, reply: i128)
         requires { length self.old + 41 ≤ 65536 }
-        ensures value { (r : Option ℕ) → reply ≡ reply_number r → self.new ≡ self.old ++ reply_text r }
+        ensures value { (r : Option ℕ)
+            → reply ≡ reply_number r → self.new ≡ self.old ++ reply_text r }
         ensures short { length self.new ≤ length self.old + 41 }
     {
         let mut buffer = Buffer::new();
@@ -109,7 +111,8 @@ impl TextBuffer {
     pub fn write_to<K: Sink>(&mut self, sink: &mut K) -> Result<(), Failed>
         ensures empty { OnOk result (self.new ≡ []) }
         ensures ok { OnOk result (Appends (K.written sink.old) (K.written sink.new) self.old) }
-        ensures failed { OnErr result (AppendsPrefix (K.written sink.old) (K.written sink.new) self.old) }
+        ensures failed { OnErr result
+            (AppendsPrefix (K.written sink.old) (K.written sink.new) self.old) }
         ensures cause { HasCause (K.faults sink.old) (K.faults sink.new) result }
     {
         match write_all(sink, &self.bytes) {

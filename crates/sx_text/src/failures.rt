@@ -77,7 +77,8 @@ fn push_twins(
     first: u32,
     second: u32,
 ) -> Result<(), AllocError>
-    ensures { OnOk result (text.new.items ≡ text.old.items ++ twins_text seed part.now first second) }
+    ensures { OnOk result
+        (text.new.items ≡ text.old.items ++ twins_text seed part.now first second) }
 {
     push_front(text, seed, part)?;
     push_pair(text, first, second)
@@ -114,7 +115,8 @@ fn push_witness(
     word: &str,
     witness: &Witness,
 ) -> Result<(), AllocError>
-    ensures { OnOk result (text.new.items ≡ text.old.items ++ witness_text chunk word.now attempt witness.now) }
+    ensures { OnOk result
+        (text.new.items ≡ text.old.items ++ witness_text chunk word.now attempt witness.now) }
 {
     push_try(text, chunk, attempt, word)?;
     push_numbers(text, numbers_of(witness))?;
@@ -130,7 +132,8 @@ fn push_stuck(
     word: &str,
     witnesses: &[Witness],
 ) -> Result<(), AllocError>
-    ensures { OnOk result (text.new.items ≡ text.old.items ++ tries_text seed part.now chunk word.now 0 witnesses.now) }
+    ensures { OnOk result
+        (text.new.items ≡ text.old.items ++ tries_text seed part.now chunk word.now 0 witnesses.now) }
 {
     'tries: for attempt in 0..witnesses.len() {
         push_front(text, seed, part)?;
@@ -146,7 +149,8 @@ pub fn push_failure(
     seed: u64,
     fault: &PartFault,
 ) -> Result<(), AllocError>
-    ensures { OnOk result (text.new.items ≡ text.old.items ++ failure_text plan.now seed (failure_of fault.now)) }
+    ensures { OnOk result
+        (text.new.items ≡ text.old.items ++ failure_text plan.now seed (failure_of fault.now)) }
 {
     let part = part_name(plan.kind, fault.part);
     match &fault.cause {

@@ -45,7 +45,8 @@ pub(crate) fn push_number(text: &mut Vec<u8>, number: u64) -> Result<(), AllocEr
 
 /// `sux: ` with a number in between and a line feed behind.
 fn numbered_text(alloc: Global, place: &str, number: u64, told: &str) -> Result<Vec<u8>, AllocError>
-    ensures { IfOk result (λ text. text.items ≡ message (place.now ∷ decimal number ∷ told.now ∷ [])) }
+    ensures { IfOk result
+        (λ text. text.items ≡ message (place.now ∷ decimal number ∷ told.now ∷ [])) }
 {
     let mut text = Vec::from_slice(alloc, b"sux: ")?;
     text.extend_from_slice(place.as_bytes())?;
@@ -93,7 +94,8 @@ fn usage_pieces(
     second: &str,
     third: &str,
 ) -> Result<Vec<u8>, AllocError>
-    ensures { IfOk result (λ text. text.items ≡ codes "sux: usage: " ++ (first.now ++ (second.now ++ (third.now ++ 10 ∷ [])))) }
+    ensures { IfOk result
+        (λ text. text.items ≡ codes "sux: usage: " ++ (first.now ++ (second.now ++ (third.now ++ 10 ∷ [])))) }
 {
     let mut text = Vec::from_slice(alloc, b"sux: usage: ")?;
     text.extend_from_slice(first.as_bytes())?;
