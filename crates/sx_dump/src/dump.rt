@@ -4,15 +4,19 @@ ghost use Rattle.std.specs.Prelude.{◌≡◌, ◌+◌, ◌≤◌, length, slice
 ghost use Rattle.sx_spec_kinds.specs.declared.Kind.TheVariants.{Func};
 ghost use Rattle.sx_spec.specs.Layout.{header_of, layout};
 ghost use Rattle.sx_spec.specs.Reply.{reads, reply, reply_number};
-ghost use Rattle.sx_static.specs.Viewing.{IsViewed};
-ghost use Rattle.sx_dump.specs.Opening.{IsFuncHeader, dump_in};
+ghost use Rattle.sx_sections.specs.Headers.{header_as};
+ghost use Rattle.sx_sections.specs.Places.{Stands, place_body, place_count, place_width};
+ghost use Rattle.sx_dump.specs.Opening.{IsFunctionPlace, IsOpened, dump_in};
 
 use std::alloc::AllocError;
 use std::sync::ledger::Ledger;
 use sx_bits::BitView;
 use sx_fields::bank::WordBank;
+use sx_sections::header::Header;
+use sx_sections::open::Opened;
+use sx_sections::place::Place;
 use sx_sig::sign;
-use sx_spec::{Kind, Method, Plan};
+use sx_spec::Kind;
 use sx_static::FuncView;
 use sx_steps::Steps;
 
@@ -20,14 +24,12 @@ use sx_steps::Steps;
 #[derive(Copy)]
 pub struct Dump<B: WordBank + Copy> {
     pub bank: B,
-    pub(crate) plan: Plan,
-    pub(crate) keys: u32,
-    pub(crate) seed: u64,
+    pub(crate) header: Header,
     pub(crate) values: FuncView<B>,
-    ghost header: { header_of (B.words_of bank) ≡ record { plan = plan; keys = keys; seed = seed } },
-    ghost kind: { plan.kind ≡ Func },
-    ghost signed: { plan.signed ≡ 0 },
-    ghost sig_bits: { plan.sig_bits ≤ 192 },
+    ghost read: { header_of (B.words_of bank) ≡ header_as header },
+    ghost kind: { header.plan.kind ≡ Func },
+    ghost signed: { header.plan.signed ≡ 0 },
+    ghost sig_bits: { header.plan.sig_bits ≤ 192 },
     ghost viewed: { values.bank ≡ bank },
     ghost first: { values.first ≡ 12 },
     ghost width: { values.width ≡ slice_index (B.words_of bank) 10 },
@@ -43,34 +45,33 @@ impl<B: WordBank + Copy> Clone for Dump<B> {
     }
 }
 
+/// The function whose section stands at a place in the words of a bank.
+fn function_at<B: WordBank + Copy>(bank: B, place: &Place) -> FuncView<B>
+    requires function { IsFunctionPlace place.now }
+    requires stands { Stands (B.words_of bank) place.now }
+    ensures bank { result.bank ≡ bank }
+    ensures first { result.first ≡ place_body place.now }
+    ensures width { result.width ≡ place_width place.now }
+    ensures pairs { result.pairs ≡ place_count place.now }
+{
+    match place {
+        Place::Function(section) => {
+            FuncView::new(bank, section.body, section.width, section.count as u32)
+        }
+        Place::List(_) | Place::Sums(_) | Place::Corrections(_) => unreachable!(),
+    }
+}
+
 impl<B: WordBank + Copy> Dump<B> {
-    /// The dump in a bank of words that have passed every check, with cells of `width` bits.
-    pub(crate) fn new(bank: B, words: &[u64], width: u32, pairs: u32) -> Self
-        requires bank { B.words_of bank ≡ words.now }
-        requires header { IsFuncHeader words.now }
-        requires stands { IsViewed words.now 12 width pairs }
-        requires width { width ≡ slice_index words.now 10 }
-        requires pairs { pairs ≡ slice_index words.now 11 }
-        requires laid { layout (dump_in words.now) ≡ words.now }
+    /// The dump in a bank of words that were opened.
+    pub(crate) fn new(bank: B, opened: &Opened) -> Self
+        requires { IsOpened (B.words_of bank) opened.now }
         ensures { result.bank ≡ bank }
     {
-        let plan = Plan {
-            kind: Kind::Func,
-            method: match words[3] {
-                0 => Method::Mwhc,
-                _ => Method::Gov3,
-            },
-            log_bucket: 0,
-            sig_bits: words[6] as u32,
-            handle_bits: 0,
-            signed: 0,
-        };
         Dump {
             bank,
-            plan,
-            keys: words[4] as u32,
-            seed: words[5],
-            values: FuncView::new(bank, 12, width, pairs),
+            header: opened.header,
+            values: function_at(bank, &opened.places.as_slice()[0]),
         }
     }
 
@@ -78,21 +79,21 @@ impl<B: WordBank + Copy> Dump<B> {
     pub fn kind(&self) -> Kind
         ensures { result ≡ (dump_in (B.words_of self.now.bank)).header.plan.kind }
     {
-        self.plan.kind
+        self.header.plan.kind
     }
 
     /// How many keys it was built from.
     pub fn keys(&self) -> u64
         ensures { result ≡ (dump_in (B.words_of self.now.bank)).header.keys }
     {
-        u64::from(self.keys)
+        u64::from(self.header.keys)
     }
 
     /// The seed of its signatures.
     pub fn seed(&self) -> u64
         ensures { result ≡ (dump_in (B.words_of self.now.bank)).header.seed }
     {
-        self.seed
+        self.header.seed
     }
 
     /// How many words its layout has.
@@ -112,10 +113,10 @@ impl<B: WordBank + Copy> Dump<B> {
         ensures cost { steps.new ≤ steps.old + reads (dump_in (B.words_of self.now.bank)) line.now }
     {
         let sig = sign(
-            self.seed,
+            self.header.seed,
             &BitView::key_bits(line),
             None,
-            self.plan.sig_bits,
+            self.header.plan.sig_bits,
         );
         i128::from(self.values.answer(&sig, steps))
     }

@@ -250,7 +250,12 @@ impl<B: WordBank + Copy> Dump<B> {
     {
         let mut steps = Steps::<L>::new(blank);
         let mut page = Page::new();
-        put_header(&mut page, &self.plan, self.keys, self.seed);
+        put_header(
+            &mut page,
+            &self.header.plan,
+            self.header.keys,
+            self.header.seed,
+        );
         let values = &self.values;
         let cells = cells_of(values, &mut steps);
         let chunks = chunk_count(values.pairs);

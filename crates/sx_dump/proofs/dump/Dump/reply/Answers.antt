@@ -15,4 +15,4 @@ returns-clause-value g c =
     let sig = c.sign-sig.result in
     let value : c.answer.result ≡ value_of (viewed words 12 (slice_index words 10) (slice_index words 11)) sig =
     c.answer.ensures.value ∙ (λ i. value_of (viewed (g.B.WordBank.words_of (d.viewed i)) (d.first i) (d.width i) (d.pairs i)) sig) in
-    to_z-of_z w128 c.from.result (record { sfits = rw c.from.ensures (omega (arith, c.answer.type_inv)) }) ∙ c.from.ensures ∙ sym (ap reply_number (reply_is words d.plan d.keys d.seed d.header d.kind d.signed c.args.line.now _ sig c.key_bits.ensures c.sign-sig.ensures ∙ ap (λ n. Some n) (sym value)))
+    to_z-of_z w128 c.from.result (record { sfits = rw c.from.ensures (omega (arith, c.answer.type_inv)) }) ∙ c.from.ensures ∙ sym (ap reply_number (reply_is words d.header.plan d.header.keys d.header.seed d.read d.kind d.signed c.args.line.now _ sig c.key_bits.ensures c.sign-sig.ensures ∙ ap (λ n. Some n) (sym value)))
