@@ -1,20 +1,19 @@
 //! Dumps of static functions, and what they reply to lines.
 
-ghost use Rattle.std.specs.Prelude.{◌≡◌, ◌+◌, ◌≤◌, length, slice_index};
-ghost use Rattle.sx_spec_kinds.specs.declared.Kind.TheVariants.{Func};
+ghost use Rattle.std.specs.Prelude.{◌≡◌, ◌+◌, ◌≤◌, length};
 ghost use Rattle.sx_spec.specs.Layout.{header_of, layout};
 ghost use Rattle.sx_spec.specs.Reply.{reads, reply, reply_number};
 ghost use Rattle.sx_sections.specs.Headers.{header_as};
-ghost use Rattle.sx_sections.specs.Places.{Stands, place_body, place_count, place_width};
-ghost use Rattle.sx_dump.specs.Opening.{IsFunctionPlace, IsOpened, dump_in};
+ghost use Rattle.sx_dump.specs.Opening.{IsOpened, dump_in};
+ghost use Rattle.sx_dump.specs.Viewing.{IsFunctionView, IsViewOf};
 
+use crate::view::{View, view_of};
 use std::alloc::AllocError;
 use std::sync::ledger::Ledger;
 use sx_bits::BitView;
 use sx_fields::bank::WordBank;
 use sx_sections::header::Header;
 use sx_sections::open::Opened;
-use sx_sections::place::Place;
 use sx_sig::sign;
 use sx_spec::Kind;
 use sx_static::FuncView;
@@ -25,15 +24,11 @@ use sx_steps::Steps;
 pub struct Dump<B: WordBank + Copy> {
     pub bank: B,
     pub(crate) header: Header,
-    pub(crate) values: FuncView<B>,
+    pub(crate) view: View<B>,
     ghost read: { header_of (B.words_of bank) ≡ header_as header },
-    ghost kind: { header.plan.kind ≡ Func },
     ghost signed: { header.plan.signed ≡ 0 },
     ghost sig_bits: { header.plan.sig_bits ≤ 192 },
-    ghost viewed: { values.bank ≡ bank },
-    ghost first: { values.first ≡ 12 },
-    ghost width: { values.width ≡ slice_index (B.words_of bank) 10 },
-    ghost pairs: { values.pairs ≡ slice_index (B.words_of bank) 11 },
+    ghost viewed: { IsViewOf header.plan (B.words_of bank) view },
     ghost laid: { layout (dump_in (B.words_of bank)) ≡ B.words_of bank },
 }
 
@@ -42,23 +37,6 @@ impl<B: WordBank + Copy> Clone for Dump<B> {
 
     fn clone(&self) -> Result<Self, AllocError> {
         Ok(*self)
-    }
-}
-
-/// The function whose section stands at a place in the words of a bank.
-fn function_at<B: WordBank + Copy>(bank: B, place: &Place) -> FuncView<B>
-    requires function { IsFunctionPlace place.now }
-    requires stands { Stands (B.words_of bank) place.now }
-    ensures bank { result.bank ≡ bank }
-    ensures first { result.first ≡ place_body place.now }
-    ensures width { result.width ≡ place_width place.now }
-    ensures pairs { result.pairs ≡ place_count place.now }
-{
-    match place {
-        Place::Function(section) => {
-            FuncView::new(bank, section.body, section.width, section.count as u32)
-        }
-        Place::List(_) | Place::Sums(_) | Place::Corrections(_) => unreachable!(),
     }
 }
 
@@ -71,7 +49,7 @@ impl<B: WordBank + Copy> Dump<B> {
         Dump {
             bank,
             header: opened.header,
-            values: function_at(bank, &opened.places.as_slice()[0]),
+            view: view_of(bank, opened),
         }
     }
 
@@ -112,12 +90,31 @@ impl<B: WordBank + Copy> Dump<B> {
         ensures counted { steps.old ≤ steps.new }
         ensures cost { steps.new ≤ steps.old + reads (dump_in (B.words_of self.now.bank)) line.now }
     {
+        match &self.view {
+            View::Func(values) => self.reply_by_function(values, line, steps),
+        }
+    }
+
+    /// The same of a static function.
+    #[inline(always)]
+    fn reply_by_function<L: Ledger>(
+        &self,
+        values: &FuncView<B>,
+        line: &[u8],
+        steps: &mut Steps<L>,
+    ) -> i128
+        requires short { length line.now ≤ 8191 }
+        requires function { IsFunctionView self.now.header.plan (B.words_of self.now.bank) values.now }
+        ensures value { result ≡ reply_number (reply (dump_in (B.words_of self.now.bank)) line.now) }
+        ensures counted { steps.old ≤ steps.new }
+        ensures cost { steps.new ≤ steps.old + reads (dump_in (B.words_of self.now.bank)) line.now }
+    {
         let sig = sign(
             self.header.seed,
             &BitView::key_bits(line),
             None,
             self.header.plan.sig_bits,
         );
-        i128::from(self.values.answer(&sig, steps))
+        i128::from(values.answer(&sig, steps))
     }
 }
