@@ -2,7 +2,6 @@ pub mod Cells
 pub mod Functions
 pub mod Pieces
 pub mod Signing
-pub mod Headers
 pub mod Openings
 pub mod Replies
 pub mod Showing

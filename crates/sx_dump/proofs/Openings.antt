@@ -1,120 +1,108 @@
--- What the sections of a function's dump come to, by the words after its header.
-use Rattle.std.proofs.Common.{◌≡◌, ◌≢◌, ℕ, ◌+◌, ◌-◌, ◌<◌, ◌≤◌, ◌^◌, Bool, true, false, List, [], ◌∷◌, ◌++◌, length, drop, Option, Some, None, Result, Ok, Err, refl, sym, ap, ◌∙◌, arith, get_or-drop}
-use Rattle.std.specs.Prelude.{◌==◌, slice_index, slice_get, unwrap_or, flat_map, codes, if◌then◌else◌}
+-- What is opened is the one section of a static function.
+use Rattle.std.proofs.Common.{◌≡◌, ℕ, ◌≤◌, Bool, true, false, List, [], ◌∷◌, ◌++◌, length, map, drop, Option, Some, None, Result, Ok, Err, refl, sym, ap, ◌∙◌, arith, get_or, get_or-drop}
+use Rattle.std.specs.Prelude.{◌==◌, codes, slice_index, if◌then◌else◌}
 use Rattle.std.specs.List.{AllByRecursion}
-use Rattle.std.proofs.lemmas.Bool.{eq-eqb, ne_eqb}
-use Rattle.std.proofs.lemmas.List.{length-drop}
-use Rattle.sx_fields.specs.declared.section.Section.{Section as Place}
-use Rattle.sx_spec_kinds.specs.declared.Kind.TheVariants.{Func}
+use Rattle.std.proofs.lemmas.Bool.{eq-eqb}
+use Rattle.sx_spec_kinds.specs.declared.Kind.{Kind}
+use Rattle.sx_spec_kinds.specs.declared.Kind.TheVariants.{Func, Lcp, Lcp2, Hollow, HollowDist, Zfast}
 use Rattle.sx_spec_strings.specs.First.{first_failing}
-use Rattle.sx_spec.specs.Layout.{Dump, Section, SectionRule, dump_with, exact_list, function_checks, function_of, function_section, header_of, kind_slots, kinds, layout, section_of, section_size, section_words, sections_in, slots}
-use Rattle.sx_spec.proofs.Reading.{all_dropped, header_back, sections_back}
-use Rattle.sx_static.specs.FunctionSections.{function_at, function_found}
+use Rattle.sx_spec.specs.Layout.{Dump, Header, Section, SectionRule, exact_list, function_checks, function_of, function_section, header_of, kind_slots, layout, section_count, section_of, section_size, section_width, sections_in, slots, sums_section}
+use Rattle.sx_spec.specs.StaticFunction.{Function as FunctionOf}
 use Rattle.sx_static.specs.Viewing.{viewed}
-use Rattle.sx_spec_program.specs.Offer.{opened_by}
-use Rattle.sx_spec_program.specs.Program.{sux_offer}
-use Rattle.sx_dump.specs.Opening.{IsFile, IsFuncHeader, dump_in, opened_words, sections_found}
-use Rattle.sx_dump.proofs.Headers.{word_checks_hold}
+use Rattle.sx_sections.specs.declared.open.Opened.{Opened}
+use Rattle.sx_sections.specs.declared.place.Place.{Place}
+use Rattle.sx_sections.specs.declared.place.Place.TheVariants.{Function, List as ListPlace, Sums, Corrections}
+use Rattle.sx_sections.specs.Headers.{header_as}
+use Rattle.sx_sections.specs.Offers.{is_offered}
+use Rattle.sx_sections.specs.Openings.{dump_in as opened_dump}
+use Rattle.sx_sections.specs.Places.{Stands, section_at}
+use Rattle.sx_sections.specs.Walks.{AreInRow}
+use Rattle.sx_dump.specs.Opening.{IsOnlyFunction, IsOpened, dump_in}
 
-module _ (words : List ℕ) (h : IsFuncHeader words) where
-  abbrev keys : ℕ
-  keys = slice_index words 4
+-- a kind that is offered is a function
+only_func : (kind : Kind) → is_offered (Func ∷ []) kind ≡ true → kind ≡ Func
+only_func Func is = refl
+only_func Lcp is = absurd cc
+only_func Lcp2 is = absurd cc
+only_func Hollow is = absurd cc
+only_func HollowDist is = absurd cc
+only_func Zfast is = absurd cc
+
+-- where sections were found in one slot, the first check that fails was none, and they are one
+one_found : (x : Section) (xs : List Section) (o : Option ℕ) (t : Bool)
+    → (elim o as (λ _. Result (List Section) ℕ) [ Some check ↦ Err check | None ↦ if t then Ok (x ∷ []) else Err 18 ]) ≡ Ok xs → x ∷ [] ≡ xs
+one_found x xs (Some check) t e = absurd cc
+one_found x xs None true e = cc
+one_found x xs None false e = absurd cc
+
+-- the first of sections
+abbrev first_of : List Section → Section
+first_of [] = sums_section []
+first_of (x ∷ xs) = x
+
+-- a function alone among the sections at places is at the only place
+only_place : (words : List ℕ) (f : FunctionOf) (places : List Place) → f.width ≡ slice_index words 10 → f.pairs ≡ slice_index words 11
+    → function_section f ∷ [] ≡ map (section_at words) places → AllByRecursion (Stands words) places → AreInRow 10 places (length words) → IsOnlyFunction words places
+only_place words f [] wide many e all row = absurd cc
+only_place words f (Function s ∷ []) wide many e all row = record {
+  section = s;
+  only = refl;
+  stands = all.0;
+  body = row.0;
+  width = sym (ap (λ xs. section_width (first_of xs)) e) ∙ wide;
+  count = sym (ap (λ xs. section_count (first_of xs)) e) ∙ many;
+}
+only_place words f (Function s ∷ p ∷ places) wide many e all row = absurd (let n = ap (λ (xs : List Section). length xs) e in omega arith)
+only_place words f (ListPlace s ∷ places) wide many e all row = absurd cc
+only_place words f (Sums s ∷ places) wide many e all row = absurd cc
+only_place words f (Corrections s ∷ places) wide many e all row = absurd cc
+
+module _ (words : List ℕ) (o : Opened) (is : IsOpened words o) where
+  abbrev h : Header
+  h = header_as o.header
 
   abbrev rest : List ℕ
   rest = drop 10 words
 
   abbrev rule : SectionRule
-  rule = function_of keys keys 0 64
+  rule = function_of h.keys h.keys 0 64
 
-  slots_are : slots (header_of words) ≡ record { name = codes "values"; rule = λ _. function_of keys keys 0 64 } ∷ []
+  pub kind_is : o.header.plan.kind ≡ Func
+  kind_is = only_func o.header.plan.kind is.kind
+
+  pub signed_is : o.header.plan.signed ≡ 0
+  signed_is = let none : o.header.plan.signed ≤ 0 = is.signed in omega arith
+
+  slots_are : slots h ≡ record { name = codes "values"; rule = λ _. function_of h.keys h.keys 0 64 } ∷ []
   slots_are =
-      let kind : unwrap_or (slice_get kinds (slice_index words 2)) Func ≡ Func = ap (λ (code : ℕ). unwrap_or (slice_get kinds code) Func) h.kind in
-      let none : (slice_index words 8 == 0) ≡ true = eq-eqb (slice_index words 8) 0 h.signed in
-      λ i. kind_slots (kind i) (header_of words) ++ (if none i then [] else exact_list (codes "signatures") keys (slice_index words 8) (slice_index words 8) ∷ [])
+      let none : (o.header.plan.signed == 0) ≡ true = eq-eqb o.header.plan.signed 0 signed_is in
+      λ i. kind_slots (kind_is i) h ++ (if none i then [] else exact_list (codes "signatures") h.keys h.plan.signed h.plan.signed ∷ [])
 
-  -- what is left after the section
-  abbrev ending : Result (List Section) ℕ
-  ending = sections_in [] (section_of rule rest ∷ []) (drop (section_size rule rest) rest)
+  sections_are : section_of rule rest ∷ [] ≡ map (section_at words) o.places.items
+  sections_are =
+      one_found (section_of rule rest) (map (section_at words) o.places.items)
+      (first_failing (function_checks h.keys h.keys 0 64 rest)) (length (drop (section_size rule rest) rest) == 0)
+      (sym (ap (λ s. sections_in s [] rest) slots_are) ∙ is.places.sections)
 
-  abbrev after_checks : Option ℕ → Result (List Section) ℕ
-  after_checks o = elim o [ Some check ↦ Err check | None ↦ ending ]
+  -- its one place
+  pub only_function : IsOnlyFunction words o.places.items
+  only_function =
+      only_place words _ o.places.items (get_or-drop 10 words 0 0) (get_or-drop 10 words 1 0) sections_are is.places.stand is.places.row
 
-  read_as : sections_in (slots (header_of words)) [] rest ≡ after_checks (first_failing (function_checks keys keys 0 64 rest))
-  read_as = ap (λ s. sections_in s [] rest) slots_are
+  -- and the dump in the words is what was opened
+  pub dump_is : opened_dump words o ≡ dump_in words
+  dump_is =
+      let f = only_function in
+      (λ i. record { header = is.header i; sections = map (section_at words) (f.only i) })
+      ∙ (λ i. record { header = header_of words; sections = function_section (viewed words (f.body i) (f.width i) (f.count i)) ∷ [] })
 
-  abbrev found_by : Option ℕ → Result Place ℕ
-  found_by o = elim o [ Some check ↦ Err check | None ↦ Ok (function_at keys keys 0 64 words 10) ]
+  pub laid_out : layout (dump_in words) ≡ words
+  laid_out = ap layout (sym dump_is) ∙ is.laid
 
-  failed : (check : ℕ) (o : Option ℕ) → Err check ≡ found_by o → after_checks o ≡ Err check
-  failed check (Some other) found = let same : check ≡ other = cc in ap (λ (n : ℕ). Err n) (sym same)
-  failed check None found = absurd cc
+  -- which a bank with these words holds
+  pub opens : (held : List ℕ) (r : Result Dump ℕ) → held ≡ words → r ≡ Ok (opened_dump words o) → r ≡ Ok (dump_in held)
+  opens held r same found = found ∙ ap (λ d. Ok d) dump_is ∙ (λ i. Ok (dump_in (sym same i)))
 
-  -- a check of the section that fails is the dump's
-  pub section_fails : (check : ℕ) → Err check ≡ function_found keys keys 0 64 words 10 → sections_found words ≡ Err check
-  section_fails check found =
-      ap (dump_with (header_of words)) (read_as ∙ failed check (first_failing (function_checks keys keys 0 64 rest)) found)
-
-  passed : (s : Place) (o : Option ℕ) → Ok s ≡ found_by o → (s ≡ function_at keys keys 0 64 words 10) × (after_checks o ≡ ending)
-  passed s (Some other) found = absurd cc
-  passed s None found = (cc, refl)
-
-  module _ (s : Place) (found : Ok s ≡ function_found keys keys 0 64 words 10) (within : s.after ≤ length words) where
-    facts : (s ≡ function_at keys keys 0 64 words 10) × (after_checks (first_failing (function_checks keys keys 0 64 rest)) ≡ ending)
-    facts = passed s (first_failing (function_checks keys keys 0 64 rest)) found
-
-    pub body_is : s.body ≡ 12
-    body_is = ap (λ (p : Place). p.body) facts.0
-
-    pub width_is : s.width ≡ slice_index words 10
-    width_is = ap (λ (p : Place). p.width) facts.0 ∙ get_or-drop 10 words 0 0
-
-    pub count_is : s.count ≡ slice_index words 11
-    count_is = ap (λ (p : Place). p.count) facts.0 ∙ get_or-drop 10 words 1 0
-
-    after_is : s.after ≡ 10 + section_size rule rest
-    after_is = ap (λ (p : Place). p.after) facts.0
-
-    left : length (drop (section_size rule rest) rest) ≡ length words - s.after
-    left =
-        let after = after_is in
-        let a = length-drop (section_size rule rest) rest in
-        let b = length-drop 10 words in
-        omega (arith, after, a, b)
-
-    -- words after the section are one too many
-    pub rest_fails : s.after ≢ length words → sections_found words ≡ Err 18
-    rest_fails more =
-        let n = left in
-        let some : (length (drop (section_size rule rest) rest) == 0) ≡ false = ne_eqb (length (drop (section_size rule rest) rest)) 0 (λ none. more (omega arith)) in
-        ap (dump_with (header_of words)) (read_as ∙ facts.1 ∙ ap (λ (t : Bool). if t then Ok (section_of rule rest ∷ []) else Err 18) some)
-
-    -- otherwise the dump is the one in the words
-    pub section_passes : s.after ≡ length words → section_of rule rest ≡ function_section (viewed words s.body s.width s.count) → sections_found words ≡ Ok (dump_in words)
-    section_passes end section =
-        let n = left in
-        let none : (length (drop (section_size rule rest) rest) == 0) ≡ true = eq-eqb (length (drop (section_size rule rest) rest)) 0 (omega arith) in
-        let same : section_of rule rest ≡ function_section (viewed words 12 (slice_index words 10) (slice_index words 11)) =
-        section ∙ (λ i. function_section (viewed words (body_is i) (width_is i) (count_is i))) in
-        ap (dump_with (header_of words)) (read_as ∙ facts.1 ∙ ap (λ (t : Bool). if t then Ok (section_of rule rest ∷ []) else Err 18) none ∙ ap (λ x. Ok (x ∷ [])) same)
-
-  -- ---- the layout
-
-  sections_read : (r : Result (List Section) ℕ) (sections : List Section) → dump_with (header_of words) r ≡ Ok (record { header = header_of words; sections = sections }) → r ≡ Ok sections
-  sections_read (Err check) sections e = absurd cc
-  sections_read (Ok others) sections e =
-      let same : others ≡ sections = ap (λ (d : Result Dump ℕ). elim d as (λ _. List Section) [ Ok dump ↦ dump.sections | Err check ↦ [] ]) e in
-      ap (λ xs. Ok xs) same
-
-  -- words that are a dump are its layout
-  pub laid_out : AllByRecursion (λ w. w < 2 ^ 64) words → sections_found words ≡ Ok (dump_in words) → layout (dump_in words) ≡ words
-  laid_out small found =
-      let sections = (dump_in words).sections in
-      let read = sections_read (sections_in (slots (header_of words)) [] rest) sections found in
-      let (xs, is, written) = sections_back (slots (header_of words)) [] sections rest (all_dropped (λ w. w < 2 ^ 64) 10 words small) read in
-      header_back words sections h.long (word_checks_hold words h) (ap (flat_map section_words) is ∙ written)
-
--- ---- files
-
--- what words and a size are opened as, their file is
-pub file_opens : (words : List ℕ) (bytes : ℕ) (file : List ℕ) (r : Result Dump ℕ) → IsFile words bytes file → opened_words words bytes ≡ r → opened_by sux_offer file ≡ r
-file_opens words bytes file r is found = (λ i. opened_words (is.held i) (is.size i)) ∙ found
+  -- the first of the places
+  pub place_is : (items : List Place) (d : Place) → items ≡ o.places.items → get_or items 0 d ≡ Function only_function.section
+  place_is items d same = let f = only_function in ap (λ (l : List Place). get_or l 0 d) (same ∙ f.only)

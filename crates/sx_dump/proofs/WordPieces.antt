@@ -1,6 +1,5 @@
 -- The words of bytes, piece by piece.
 use Rattle.std.proofs.Common.{◌≡◌, ℕ, suc, zero, ◌+◌, ◌*◌, ◌<◌, ◌≤◌, List, [], ◌∷◌, ◌++◌, length, map, take, drop, refl, sym, ap, ◌∙◌, arith, append_assoc, length-append, length-drop, append-nil}
-use Rattle.std.specs.Prelude.{◌/◌, ◌%◌, min}
 use Rattle.std.specs.Int.{w64, from_le_bytes, div_ceil}
 use Rattle.std.specs.List.{range_with_len}
 use Rattle.std.proofs.lemmas.List.{drop-append-le, take-append-le}

@@ -1,3 +1,4 @@
 pub mod Assembling
 pub mod Opening
 pub mod Showing
+pub mod Viewing

@@ -1,9 +1,8 @@
 //! Dumps of static functions, built from keys and values.
 
-ghost use Rattle.std.specs.Prelude.{◌≡◌, ◌+◌, ◌^◌, ◌<◌, ◌≤◌, [], ◌∷◌, ◌++◌, IfOk, length, map};
+ghost use Rattle.std.specs.Prelude.{◌≡◌, ◌+◌, ◌^◌, ◌<◌, ◌≤◌, IfOk, length, map};
 ghost use Rattle.sx_spec_strings.specs.Numbers.{binary_digits};
 ghost use Rattle.sx_spec.specs.Fields.{packed};
-ghost use Rattle.sx_spec.specs.Layout.{magic, header_words, method_code as method_code_of};
 ghost use Rattle.sx_spec.specs.Parts.{least_width as least_width_of};
 ghost use Rattle.sx_spec_program.specs.Program.{IsOfferedPlan};
 ghost use Rattle.sx_bits.specs.KeyLists.{IsKeyList};
@@ -11,11 +10,9 @@ ghost use Rattle.sx_dump.specs.Assembling.{IsAssembled, function_dump_words, key
 
 use std::alloc::{AllocError, Global};
 use sx_bits::KeyList;
-use sx_sig::{Method, Plan, Signature, sign};
+use sx_sections::header::{Header, front_words};
+use sx_sig::{Plan, Signature, sign};
 use sx_static::{Built, FuncBuf, Witness, build as build_function};
-
-/// The first word of a dump: the bytes `SUXDUMP1`.
-const MAGIC: u64 = 0x3150_4D55_4458_5553;
 
 /// What keys and values come to.
 #[derive(Drop)]
@@ -83,41 +80,8 @@ fn sign_keys(
     Ok(sigs)
 }
 
-/// The code of a method.
-fn method_code(method: Method) -> u64
-    ensures { result ≡ method_code_of method }
-{
-    match method {
-        Method::Mwhc => 0,
-        Method::Gov3 => 1,
-    }
-}
-
-/// The words of a dump up to before the table of its function: the header, the width of a value and
-/// the number of pairs. `rest` words follow.
-fn front_words(plan: &Plan, keys: u32, seed: u64, width: u32, rest: usize) -> [u64; 12]
-    requires few { rest < 2 ^ 32 }
-    requires plan { IsOfferedPlan plan.now }
-    ensures { result ≡ magic ∷ (rest + 12) ∷ header_words (record { plan = plan.now; keys = keys; seed = seed }) ++ (width ∷ keys ∷ []) }
-{
-    let pairs = u64::from(keys);
-    [
-        MAGIC,
-        rest as u64 + 12,
-        0,
-        method_code(plan.method),
-        pairs,
-        seed,
-        u64::from(plan.sig_bits),
-        0,
-        0,
-        0,
-        u64::from(width),
-        pairs,
-    ]
-}
-
-/// The words of the dump of a function.
+/// The words of the dump of a function: the front, the width of a value and the number of pairs, the
+/// chunk table and the cells.
 fn dump_words(
     alloc: Global,
     plan: &Plan,
@@ -125,15 +89,20 @@ fn dump_words(
     function: &FuncBuf,
 ) -> Result<Vec<u64>, AllocError>
     requires few { length function.now.table.items + length (packed function.now.cells.width function.now.cells.items) < 2 ^ 32 }
-    requires plan { IsOfferedPlan plan.now }
     ensures { IfOk result (λ words. words.items ≡ function_dump_words plan.now seed function.now) }
 {
     let table = function.table.as_slice();
     let cells = function.cells.words();
-    let rest = table.len() + cells.len();
-    let front = front_words(plan, function.pairs, seed, function.width, rest);
-    let mut words = Vec::with_capacity(alloc, front.len() + rest)?;
-    words.extend_from_slice(&front)?;
+    let count = table.len() + cells.len() + 12;
+    let header = Header {
+        plan: *plan,
+        keys: function.pairs,
+        seed,
+    };
+    let mut words = Vec::with_capacity(alloc, count)?;
+    words.extend_from_slice(&front_words(&header, count as u64))?;
+    words.push(u64::from(function.width))?;
+    words.push(u64::from(function.pairs))?;
     words.extend_from_slice(table)?;
     words.extend_from_slice(cells)?;
     Ok(words)

@@ -5,6 +5,7 @@ mod assembling;
 mod dump;
 mod open;
 mod show;
+mod view;
 mod words;
 
 pub use assembling::{Assembled, PartCause, PartFault, assemble};

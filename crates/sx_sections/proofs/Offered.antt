@@ -1,8 +1,9 @@
 -- The checks of a header where a part of all dumps is offered.
-use Rattle.std.proofs.Common.{◌≡◌, ℕ, ◌%◌, ◌^◌, Bool, true, false, List, [], ◌∷◌, length, Option, Some, None, Result, Ok, Err, ◌<◌, ◌≤◌, refl, sym, ap, ◌∙◌}
+use Rattle.std.proofs.Common.{◌≡◌, ℕ, ◌%◌, ◌^◌, Bool, true, false, List, [], ◌∷◌, length, Option, Some, None, Result, Ok, Err, ◌<◌, ◌≤◌, refl, sym, ap, subst, ◌∙◌}
 use Rattle.std.specs.Prelude.{◌==◌, ◌&&◌, ◌||◌, nat_le, slice_index, drop, flat_map}
 use Rattle.std.specs.Int.{is_in_range}
 use Rattle.std.specs.List.{AllByRecursion}
+use Rattle.std.proofs.lemmas.Bool.{and_parts, leb-true}
 use Rattle.sx_spec_kinds.specs.declared.Kind.{Kind}
 use Rattle.sx_spec_kinds.specs.declared.Kind.TheVariants.{Func, Lcp, Lcp2, Hollow, HollowDist, Zfast}
 use Rattle.sx_spec_strings.specs.First.{first_failing}
@@ -13,7 +14,7 @@ use Rattle.sx_static.proofs.FunctionSections.{all_true}
 use Rattle.sx_spec_program.specs.Offer.{Offer, opened_by}
 use Rattle.sx_sections.specs.Headers.{file_checks}
 use Rattle.sx_sections.specs.Offers.{checks_where, is_offered, offered_checks}
-use Rattle.sx_sections.specs.Openings.{IsFile}
+use Rattle.sx_sections.specs.Openings.{IsFile, opened_words, opened_words_by, sections_found}
 
 and_true : (a : Bool) → (a && true) ≡ a
 and_true true = refl
@@ -69,34 +70,51 @@ module _ (words : List ℕ) (bytes : ℕ) where
       ∷ (10, and_true (nat_le (slice_index words 9) 64 && (uses_handles kind || slice_index words 9 == 0)) i)
       ∷ [])
 
--- ---- files
+-- ---- by words alone
 
--- what a file is opened as, by its first check that fails
+-- what words are opened as, by their first check that fails
 abbrev after_header : List ℕ → Option ℕ → Result Dump ℕ
-after_header words o = elim o [
-  | Some check ↦ Err check
-  | None ↦ dump_with (header_of words) (sections_in (slots (header_of words)) [] (drop 10 words))
-]
+after_header words o = elim o [ Some check ↦ Err check | None ↦ sections_found words ]
 
-pub header_fails : (words : List ℕ) (bytes check : ℕ) → Some check ≡ first_failing (file_checks words bytes) → (file : List ℕ) → IsFile words bytes file → opened file ≡ Err check
-header_fails words bytes check fails file is =
-    (λ i. after_header (is.held i) (first_failing (file_checks (is.held i) (is.size i)))) ∙ ap (after_header words) (sym fails)
+pub header_fails : (words : List ℕ) (bytes check : ℕ) → Some check ≡ first_failing (file_checks words bytes) → opened_words words bytes ≡ Err check
+header_fails words bytes check fails = ap (after_header words) (sym fails)
 
-pub sections_tell : (words : List ℕ) (bytes : ℕ) (h : Header) (r : Result (List Section) ℕ) → None ≡ first_failing (file_checks words bytes) → h ≡ header_of words → sections_in (slots h) [] (drop 10 words) ≡ r → (file : List ℕ) → IsFile words bytes file → opened file ≡ dump_with h r
-sections_tell words bytes h r passes header found file is =
-    (λ i. after_header (is.held i) (first_failing (file_checks (is.held i) (is.size i))))
-    ∙ ap (after_header words) (sym passes)
+pub sections_tell : (words : List ℕ) (bytes : ℕ) (h : Header) (r : Result (List Section) ℕ) → None ≡ first_failing (file_checks words bytes) → h ≡ header_of words → sections_in (slots h) [] (drop 10 words) ≡ r → opened_words words bytes ≡ dump_with h r
+sections_tell words bytes h r passes header found =
+    ap (after_header words) (sym passes)
     ∙ (λ i. dump_with (sym header i) (sections_in (slots (sym header i)) [] (drop 10 words)))
     ∙ ap (dump_with h) found
 
-abbrev after_offer : List ℕ → Option ℕ → Result Dump ℕ
-after_offer file o = elim o [ Some check ↦ Err check | None ↦ opened file ]
+abbrev after_offer : List ℕ → ℕ → Option ℕ → Result Dump ℕ
+after_offer words bytes o = elim o [ Some check ↦ Err check | None ↦ opened_words words bytes ]
 
 -- an offer's first check that fails, or what any dump is opened as
-pub offer_tells : (words : List ℕ) (bytes : ℕ) (kinds : List Kind) (signed : ℕ) (o : Option ℕ) → o ≡ first_failing (checks_where kinds signed words bytes) → (offer : Offer) → offer.kinds ≡ kinds → offer.signed ≡ signed → (file : List ℕ) → IsFile words bytes file → opened_by offer file ≡ after_offer file o
-offer_tells words bytes kinds signed o first offer kinds_are signed_is file is =
-    (λ i. after_offer file (first_failing (offered_checks offer (is.held i) (is.size i))))
-    ∙ ap (after_offer file) (by_offer words bytes offer kinds signed kinds_are signed_is ∙ sym first)
+pub offer_tells : (words : List ℕ) (bytes : ℕ) (kinds : List Kind) (signed : ℕ) (o : Option ℕ) → o ≡ first_failing (checks_where kinds signed words bytes) → (offer : Offer) → offer.kinds ≡ kinds → offer.signed ≡ signed → opened_words_by offer words bytes ≡ after_offer words bytes o
+offer_tells words bytes kinds signed o first offer kinds_are signed_is =
+    ap (after_offer words bytes) (by_offer words bytes offer kinds signed kinds_are signed_is ∙ sym first)
+
+-- where no check fails, the kind and the signed width are offered
+pub kind_offered : (words : List ℕ) (bytes : ℕ) (kinds : List Kind) (signed : ℕ) (h : Header) → None ≡ first_failing (checks_where kinds signed words bytes) → h ≡ header_of words → is_offered kinds h.plan.kind ≡ true
+kind_offered words bytes kinds signed h passes header =
+    let rows = all_true (checks_where kinds signed words bytes) (sym passes) in
+    ap (λ (g : Header). is_offered kinds g.plan.kind) header
+    ∙ (and_parts (nat_le (slice_index words 2) 5) (is_offered kinds (header_of words).plan.kind) rows.1.1.1.0).1
+
+pub signed_offered : (words : List ℕ) (bytes : ℕ) (kinds : List Kind) (signed : ℕ) (h : Header) → None ≡ first_failing (checks_where kinds signed words bytes) → h ≡ header_of words → h.plan.signed ≤ signed
+signed_offered words bytes kinds signed h passes header =
+    let rows = all_true (checks_where kinds signed words bytes) (sym passes) in
+    let low : slice_index words 8 ≤ signed = leb-true (slice_index words 8) signed (and_parts (nat_le (slice_index words 8) 64) (nat_le (slice_index words 8) signed) rows.1.1.1.1.1.1.1.1.0).1 in
+    subst (λ (g : Header). g.plan.signed ≤ signed) (sym header) low
+
+-- ---- files
+
+-- what words and a size are opened as, their file is
+pub file_opened : (words : List ℕ) (bytes : ℕ) (r : Result Dump ℕ) → opened_words words bytes ≡ r → (file : List ℕ) → IsFile words bytes file → opened file ≡ r
+file_opened words bytes r found file is = (λ i. opened_words (is.held i) (is.size i)) ∙ found
+
+-- the same for an offer
+pub file_opened_by : (words : List ℕ) (bytes : ℕ) (offer : Offer) (r : Result Dump ℕ) → opened_words_by offer words bytes ≡ r → (file : List ℕ) → IsFile words bytes file → opened_by offer file ≡ r
+file_opened_by words bytes offer r found file is = (λ i. opened_words_by offer (is.held i) (is.size i)) ∙ found
 
 -- ---- the layout
 

@@ -1,14 +1,13 @@
 //! Whole dumps: whether words are one, its header, and where its sections stand.
 
-ghost use Rattle.std.specs.Prelude.{◌≡◌, ℕ, IfOk, List, length};
+ghost use Rattle.std.specs.Prelude.{◌≡◌, ◌≤◌, ℕ, IfOk, List, length, true};
 ghost use Rattle.std.specs.Int.{div_ceil};
-ghost use Rattle.std.specs.List.{AllByRecursion};
-ghost use Rattle.sx_spec.specs.Layout.{layout, opened};
+ghost use Rattle.sx_spec.specs.Layout.{header_of, layout, opened};
 ghost use Rattle.sx_spec_program.specs.Offer.{Offer, opened_by};
 ghost use Rattle.sx_sections.specs.Headers.{IsBounded, header_as};
-ghost use Rattle.sx_sections.specs.Openings.{IsFile, dump_as, dump_in};
-ghost use Rattle.sx_sections.specs.Places.{Stands};
-ghost use Rattle.sx_sections.specs.Walks.{AreInRow};
+ghost use Rattle.sx_sections.specs.Offers.{is_offered};
+ghost use Rattle.sx_sections.specs.Openings.{IsFile, dump_as, dump_in, opened_words, opened_words_by};
+ghost use Rattle.sx_sections.specs.Walks.{AreFound};
 
 use crate::fault::{header_fault, offered_fault};
 use crate::header::{Header, read_header};
@@ -32,10 +31,12 @@ pub struct Opened {
 /// The first check that fails.
 pub fn open_words(words: &[u64], bytes: u64) -> Result<Opened, Check>
     requires { length words.now ≡ div_ceil bytes 8 }
-    ensures opened { (file : List ℕ) → IsFile words.now bytes file → opened file ≡ dump_as words.now result }
+    ensures found { opened_words words.now bytes ≡ dump_as words.now result }
+    ensures opened { (file : List ℕ) → IsFile words.now bytes file
+        → opened file ≡ dump_as words.now result }
+    ensures header { IfOk result (λ o. header_as o.header ≡ header_of words.now) }
     ensures laid { IfOk result (λ o. layout (dump_in words.now o) ≡ words.now) }
-    ensures stand { IfOk result (λ o. AllByRecursion (Stands words.now) o.places.items) }
-    ensures row { IfOk result (λ o. AreInRow 10 o.places.items (length words.now)) }
+    ensures places { IfOk result (λ o. AreFound (header_as o.header) words.now o.places.items) }
     ensures bounded { IfOk result (λ o. IsBounded (header_as o.header)) }
 {
     match header_fault(words, bytes) {
@@ -56,11 +57,16 @@ pub fn open_words(words: &[u64], bytes: u64) -> Result<Opened, Check>
 /// The first check that fails, where what isn't offered fails check 4 or 9.
 pub fn open_offered(words: &[u64], bytes: u64, kinds: &[Kind], signed: u32) -> Result<Opened, Check>
     requires { length words.now ≡ div_ceil bytes 8 }
+    ensures found { (offer : Offer) → offer.kinds ≡ kinds.now → offer.signed ≡ signed
+        → opened_words_by offer words.now bytes ≡ dump_as words.now result }
     ensures opened { (offer : Offer) → offer.kinds ≡ kinds.now → offer.signed ≡ signed
-        → (file : List ℕ) → IsFile words.now bytes file → opened_by offer file ≡ dump_as words.now result }
+        → (file : List ℕ) → IsFile words.now bytes file
+        → opened_by offer file ≡ dump_as words.now result }
+    ensures offered { IfOk result (λ o. is_offered kinds.now o.header.plan.kind ≡ true) }
+    ensures narrow { IfOk result (λ o. o.header.plan.signed ≤ signed) }
+    ensures header { IfOk result (λ o. header_as o.header ≡ header_of words.now) }
     ensures laid { IfOk result (λ o. layout (dump_in words.now o) ≡ words.now) }
-    ensures stand { IfOk result (λ o. AllByRecursion (Stands words.now) o.places.items) }
-    ensures row { IfOk result (λ o. AreInRow 10 o.places.items (length words.now)) }
+    ensures places { IfOk result (λ o. AreFound (header_as o.header) words.now o.places.items) }
     ensures bounded { IfOk result (λ o. IsBounded (header_as o.header)) }
 {
     match offered_fault(words, bytes, kinds, signed) {

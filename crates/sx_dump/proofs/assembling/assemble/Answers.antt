@@ -30,8 +30,8 @@ build-requires-clause-fit c =
     let values = c.args.values.now in
     subst (λ (w : ℕ). (k : ℕ) (d : ℕ) → k < length values → get_or values k d < 2 ^ w) (sym c.least_width-width.ensures.value) (All-from_recursion (λ v. v < 2 ^ least_width values) values (least_width_holds values))
 
-pub dump_words-requires-clause-few : goal.dump_words-requires-clause-few
-dump_words-requires-clause-few c =
+pub dump_words-requires : goal.dump_words-requires
+dump_words-requires c =
     let lines = c.args.keys.now.lines in
     let plan = c.args.plan.now in
     let keys = c.sign_keys.ensures.keys in

@@ -1,7 +1,7 @@
 use Rattle.std.proofs.Common.{◌∙◌, arith}
 use Rattle.sx_spec.specs.StaticFunction.{Chunk}
 use Rattle.sx_static.specs.Viewing.{viewed}
-use Rattle.sx_dump.specs.Showing.{chunk_line}
+use Rattle.sx_sections.specs.Lines.{chunk_line}
 use Rattle.sx_dump.proofs.Showing.{turn_cut, turn_shown, turns_shown}
 use Rattle.sx_dump.proofs.Tables.{chunks_count}
 use Rattle.sx_dump.proofs.show.show_chunks.Goals as goal
