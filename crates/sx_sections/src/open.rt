@@ -32,7 +32,8 @@ pub struct Opened {
 /// The first check that fails.
 pub fn open_words(words: &[u64], bytes: u64) -> Result<Opened, Check>
     requires { length words.now ≡ div_ceil bytes 8 }
-    ensures opened { (file : List ℕ) → IsFile words.now bytes file → opened file ≡ dump_as words.now result }
+    ensures opened { (file : List ℕ) → IsFile words.now bytes file
+        → opened file ≡ dump_as words.now result }
     ensures laid { IfOk result (λ o. layout (dump_in words.now o) ≡ words.now) }
     ensures stand { IfOk result (λ o. AllByRecursion (Stands words.now) o.places.items) }
     ensures row { IfOk result (λ o. AreInRow 10 o.places.items (length words.now)) }
@@ -57,7 +58,8 @@ pub fn open_words(words: &[u64], bytes: u64) -> Result<Opened, Check>
 pub fn open_offered(words: &[u64], bytes: u64, kinds: &[Kind], signed: u32) -> Result<Opened, Check>
     requires { length words.now ≡ div_ceil bytes 8 }
     ensures opened { (offer : Offer) → offer.kinds ≡ kinds.now → offer.signed ≡ signed
-        → (file : List ℕ) → IsFile words.now bytes file → opened_by offer file ≡ dump_as words.now result }
+        → (file : List ℕ) → IsFile words.now bytes file
+        → opened_by offer file ≡ dump_as words.now result }
     ensures laid { IfOk result (λ o. layout (dump_in words.now o) ≡ words.now) }
     ensures stand { IfOk result (λ o. AllByRecursion (Stands words.now) o.places.items) }
     ensures row { IfOk result (λ o. AreInRow 10 o.places.items (length words.now)) }
