@@ -17,7 +17,8 @@ use sx_static::function_check;
 fn check_function(words: &[u64], at: usize, bounds: Bounds) -> Result<Place, Check>
     requires inside { at ≤ length words.now }
     requires bounded { IsWithin bounds }
-    ensures { IsChecked (function_of bounds.least bounds.most bounds.low bounds.high) words.now at result }
+    ensures { IsChecked (function_of bounds.least bounds.most bounds.low bounds.high)
+        words.now at result }
 {
     let Bounds {
         least,
@@ -35,7 +36,8 @@ fn check_function(words: &[u64], at: usize, bounds: Bounds) -> Result<Place, Che
 fn check_list(words: &[u64], at: usize, bounds: Bounds) -> Result<Place, Check>
     requires inside { at ≤ length words.now }
     requires bounded { IsWithin bounds }
-    ensures { IsChecked (list_of bounds.least bounds.most bounds.low bounds.high) words.now at result }
+    ensures { IsChecked (list_of bounds.least bounds.most bounds.low bounds.high)
+        words.now at result }
 {
     let Bounds {
         least,

@@ -74,11 +74,12 @@ fn plan_fault(words: &[u64], kind: Kind, signed: u32) -> Option<Check>
 }
 
 /// The first check of a file of so many bytes and its header that fails, by the words of the file,
-/// where these kinds are offered, with a signed width of so much at most. The last word is filled up
-/// with zero bytes.
+/// where these kinds are offered, with a signed width of so much at most. The last word is filled
+/// up with zero bytes.
 pub fn offered_fault(words: &[u64], bytes: u64, kinds: &[Kind], signed: u32) -> Option<Check>
     requires { length words.now ≡ div_ceil bytes 8 }
-    ensures first { number_in result ≡ first_failing (checks_where kinds.now signed words.now bytes) }
+    ensures first { number_in result
+        ≡ first_failing (checks_where kinds.now signed words.now bytes) }
     ensures passed { IfNone result (IsHeader words.now) }
 {
     if bytes % 8 != 0 || bytes < MIN_BYTES || bytes > MAX_BYTES {

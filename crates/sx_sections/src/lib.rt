@@ -1,4 +1,4 @@
-//! The sections of a dump of any kind: which they are, what each of them has to be, and where they stand.
+//! The sections of a dump of any kind: which they are, what each has to be, and where they stand.
 #![tactic(auto)]
 
 pub mod check;

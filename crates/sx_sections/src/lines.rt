@@ -96,7 +96,8 @@ pub fn put_entry(page: &mut Page, word: &str, i: u64, number: u64)
 #[tactic(auto, unfolding(crate::specs::Lines::chunk_line))]
 pub fn put_chunk(page: &mut Page, i: u64, segment: u64, try_number: u64)
     requires { length page.old.bytes + 256 ≤ 4096 }
-    ensures { page.new.bytes ≡ page.old.bytes ++ lines.chunk_line i (record { segment = segment; try = try_number }) }
+    ensures { page.new.bytes
+        ≡ page.old.bytes ++ lines.chunk_line i (record { segment = segment; try = try_number }) }
 {
     put_number(page, "chunk ", i);
     put_number(page, " segment ", segment);
@@ -154,7 +155,8 @@ pub fn put_sums(page: &mut Page, name: SectionName, count: u64, below: u64)
 /// Puts the head of a function.
 pub fn put_function(page: &mut Page, name: SectionName, width: u32, pairs: u64, sizes: Sizes)
     requires { length page.old.bytes + 256 ≤ 4096 }
-    ensures { page.new.bytes ≡ page.old.bytes ++ lines.function_line (name_text name) width pairs sizes.chunks sizes.cells }
+    ensures { page.new.bytes ≡ page.old.bytes
+        ++ lines.function_line (name_text name) width pairs sizes.chunks sizes.cells }
 {
     page.push_str("function ");
     page.push_str(text_of(name));

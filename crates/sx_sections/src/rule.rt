@@ -56,7 +56,8 @@ impl SlotRule {
         requires bounded { IsBoundedAfter width self }
         requires few { count < 2 ^ 32 }
         ensures rule { (before : List Section) → section_width (last_section before) ≡ width
-            → section_count (last_section before) ≡ count → rule_as result ≡ rule_after self before }
+            → section_count (last_section before) ≡ count
+            → rule_as result ≡ rule_after self before }
         ensures bounded { IsBoundedRule result }
     {
         match self {

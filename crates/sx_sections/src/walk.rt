@@ -25,7 +25,8 @@ pub fn walk(words: &[u64], header: &Header) -> Result<Places, Check>
     requires bounded { IsBounded (header_as header.now) }
     ensures { MatchResult result
         (λ places. AreFound (header_as header.now) words.now places.items)
-        (λ check. sections_in (slots_of (header_as header.now)) [] (drop 10 words.now) ≡ Err (check_number check)) }
+        (λ check. sections_in (slots_of (header_as header.now)) [] (drop 10 words.now)
+        ≡ Err (check_number check)) }
 {
     let slots = slots(header);
     let mut places = Places::new();
