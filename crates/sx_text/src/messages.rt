@@ -9,6 +9,7 @@ ghost use Rattle.sx_text.specs.Reasons.{counts_text, values_fault_of};
 
 use itoa::Buffer;
 use std::alloc::{AllocError, Global};
+use sx_sections::kinds::kind_text;
 use sx_spec::{Kind, OptionName, Rule};
 
 /// Why a line is no key.
@@ -73,20 +74,6 @@ fn option_word(name: OptionName) -> &'static str
     }
 }
 
-/// The word for a kind.
-pub(crate) fn kind_word(kind: Kind) -> &'static str
-    ensures { result.now ≡ kind_word kind }
-{
-    match kind {
-        Kind::Func => "func",
-        Kind::Lcp => "lcp",
-        Kind::Lcp2 => "lcp2",
-        Kind::Hollow => "hollow",
-        Kind::HollowDist => "hollowdist",
-        Kind::Zfast => "zfast",
-    }
-}
-
 /// What is told of words, in three pieces.
 fn usage_pieces(
     alloc: Global,
@@ -120,7 +107,7 @@ pub fn usage_message(alloc: Global, rule: Rule) -> Result<Vec<u8>, AllocError>
             alloc,
             option_word(name),
             " does not go with ",
-            kind_word(kind),
+            kind_text(kind),
         ),
         Rule::SignedAndValues => {
             usage_pieces(alloc, "--signed", " does not go with ", "--values")
@@ -226,7 +213,7 @@ pub fn opened_text(alloc: Global, kind: Kind, keys: u64, words: u64) -> Result<V
     ensures { IfOk result (λ text. text.items
         ≡ kind_word kind ++ codes " keys " ++ decimal keys ++ codes " words " ++ decimal words ++ 10 ∷ []) }
 {
-    let mut text = Vec::from_slice(alloc, kind_word(kind).as_bytes())?;
+    let mut text = Vec::from_slice(alloc, kind_text(kind).as_bytes())?;
     text.extend_from_slice(b" keys ")?;
     push_number(&mut text, keys)?;
     text.extend_from_slice(b" words ")?;
