@@ -1,12 +1,12 @@
 -- The words of a file that is read piece by piece.
-use Rattle.std.proofs.Common.{◌≡◌, ℕ, zero, suc, inl, inr, ◌∷◌, append_assoc, ◌+◌, ◌*◌, ◌^◌, ◌<◌, ◌≤◌, List, [], ◌++◌, Option, Some, None, length, take, refl, sym, ap, ◌∙◌, arith, append-nil, length-append, get_or}
-use Rattle.std.specs.Prelude.{slice_index, IfSome}
+use Rattle.std.proofs.Common.{◌≡◌, ℕ, zero, suc, inl, inr, ◌∷◌, append_assoc, ◌+◌, ◌*◌, ◌^◌, ◌<◌, ◌≤◌, List, [], ◌++◌, Option, Some, None, length, take, refl, sym, ap, ◌∙◌, arith, append-nil, length-append}
+use Rattle.std.specs.Prelude.{slice_index}
 use Rattle.std.specs.Io.KnownBytes.{Consumes, IsAtEnd}
 use Rattle.std.proofs.lemmas.Bool.{cases_lt}
 use Rattle.std.proofs.lemmas.List.{take-append-le}
 use Rattle.sx_spec.specs.Layout.{bytes_words}
 use Rattle.sx_dump.proofs.WordPieces.{words_append}
-use Rattle.sx_cli.specs.FileWords.{IsDecoded, ReadsFile, ReadsWords, TakesWords}
+use Rattle.sx_cli.specs.FileWords.{ReadsFile, ReadsWords, TakesWords}
 use Rattle.std.specs.Int.{div_ceil}
 use Rattle.sx_cli.proofs.Opens.{take_all, words_count}
 

@@ -16,7 +16,7 @@ use Rattle.sx_spec.proofs.Reading.{passing_bytes_are_layouts}
 use Rattle.sx_spec_program.specs.Offer.{opened_by, offered_checks, offers_header}
 use Rattle.sx_spec_program.specs.Program.{sux_program, sux_offer, offered_fault}
 use Rattle.sx_edge.specs.Shelf.{Opens}
-use Rattle.sx_cli.specs.FileWords.{IsDecoded, ReadsFile, ReadsWords}
+use Rattle.sx_cli.specs.FileWords.{ReadsFile, ReadsWords}
 use Rattle.sx_cli.specs.Opening.{IsFile, IsOpened, StopsAtCheck}
 use Rattle.sx_cli.specs.Telling.{Tells}
 use Rattle.sx_spec.specs.declared.Status.{Status}

@@ -1,7 +1,7 @@
 -- From what a run did to all that it promises.
 use Rattle.std.proofs.Common.{◌≡◌, ◌≢◌, ℕ, Bool, true, false, refl, sym, subst, ◌∙◌, inl, inr}
 use Rattle.sx_spec.specs.declared.Status.{Status}
-use Rattle.sx_spec.specs.declared.Status.TheVariants.{Done, BadInput, Usage, SeedsFailed, BadDump, Fault, Memory}
+use Rattle.sx_spec.specs.declared.Status.TheVariants.{Fault, Memory}
 use Rattle.sx_spec.specs.Causes.{is_fault}
 use Rattle.sx_spec.specs.Command.{Task, build, trial}
 use Rattle.sx_spec.specs.Messages.{at_output}

@@ -1,8 +1,7 @@
 -- What a build of given keys and values comes to.
-use Rattle.std.specs.Prelude.{flat_map, zip, ◌≡◌, ◌≤◌, ℕ, List, IfSome, Option, Some}
+use Rattle.std.specs.Prelude.{flat_map, zip, ◌≡◌, ℕ, List, IfSome, Option, Some}
 use Rattle.std.specs.Io.KnownBytes.{Consumes}
 use Rattle.std.specs.List.{AllZip}
-use Rattle.sx_spec_kinds.specs.declared.Kind.TheVariants.{Func}
 use Rattle.sx_spec.specs.declared.Plan.{Plan}
 use Rattle.sx_spec.specs.Built.{IsBuilt}
 use Rattle.sx_spec.specs.Command.{Text, BuildTask}

@@ -1,10 +1,10 @@
 -- What the file of a dump holds.
-use Rattle.std.specs.Prelude.{◌≡◌, ◌⊎◌, ◌+◌, ◌^◌, ◌<◌, ℕ, List, length, take, slice_index, Option, Some, None, IfSome, Bool, false, Result, Ok, Err}
+use Rattle.std.specs.Prelude.{◌≡◌, ◌⊎◌, ◌+◌, ◌^◌, ℕ, List, take, Option, Some, None, IfSome, Bool, false, Result, Ok, Err}
 use Rattle.sx_spec.specs.declared.Status.{Status}
 use Rattle.sx_spec.specs.declared.Status.TheVariants.{BadDump, Memory}
 use Rattle.sx_spec.specs.Causes.{Rose, is_fault}
 use Rattle.sx_spec.specs.Command.{Text}
-use Rattle.sx_spec.specs.Layout.{Dump, bytes_words, dump_bytes, Passes}
+use Rattle.sx_spec.specs.Layout.{Dump, dump_bytes, Passes}
 use Rattle.sx_spec.specs.Messages.{at_dump, memory_text}
 use Rattle.sx_spec.specs.Outcomes.{dump_refusal}
 use Rattle.sx_spec_program.specs.Program.{sux_program, sux_offer, offered_fault}

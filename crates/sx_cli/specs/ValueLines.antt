@@ -1,18 +1,16 @@
 -- What reading a values file comes to.
-use Rattle.std.specs.Prelude.{◌≡◌, ⊤, ℕ, ◌<◌, ◌≤◌, Bool, true, false, Result, Err, List, [], ◌∷◌, ◌++◌, length, filter_map, Option, Some, None, IfSome, IsSomeAnd, codes, decimal}
-use Rattle.std.specs.List.{concat, enumerate_from}
+use Rattle.std.specs.Prelude.{◌≡◌, ⊤, ℕ, ◌<◌, ◌≤◌, Bool, true, false, Result, Err, List, [], ◌∷◌, ◌++◌, length, filter_map, Option, Some, None, IfSome, IsSomeAnd}
+use Rattle.std.specs.List.{enumerate_from}
 use Rattle.sx_spec.specs.Causes.{Rose}
 use Rattle.sx_spec.specs.Command.{Text}
 use Rattle.sx_spec.specs.Outcomes.{first_values_fault}
-use Rattle.sx_spec.specs.Values.{ValuesFault as SpecFault, no_such_file, not_a_number, more_than_keys, fewer_than_keys, values_on, value_fault, values_faults, numeral_value, plain_values}
+use Rattle.sx_spec.specs.Values.{fewer_than_keys, values_on, value_fault, values_faults, numeral_value, plain_values}
 use Rattle.sx_spec.specs.World.{Files}
 use Rattle.sx_spec_strings.specs.First.{first}
 use Rattle.sx_spec_strings.specs.Lines.{lines}
 use Rattle.sx_edge.specs.Reading.{Reading}
 use Rattle.sx_cli.specs.Progress.{Progress}
 use Rattle.sx_text.specs.Reasons.{values_fault_of}
-use Rattle.sx_text.specs.declared.messages.ValuesFault.{ValuesFault}
-use Rattle.sx_text.specs.declared.messages.ValuesFault.TheVariants.{NoSuchFile, NotANumber, MoreThanKeys, FewerThanKeys}
 use Rattle.sx_cli.specs.declared.values.ValuesStop.{ValuesStop}
 use Rattle.sx_cli.specs.declared.values.ValuesStop.TheVariants.{Refused, Failed, Memory}
 

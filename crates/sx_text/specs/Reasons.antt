@@ -1,5 +1,5 @@
 -- Why a line of the key file or a values file is refused, and what is told of it.
-use Rattle.std.specs.Prelude.{ℕ, codes, decimal, List, [], ◌∷◌}
+use Rattle.std.specs.Prelude.{ℕ, codes, decimal, [], ◌∷◌}
 use Rattle.std.specs.List.{concat}
 use Rattle.sx_spec.specs.Command.{Text}
 use Rattle.sx_spec.specs.Keys.{Reason, too_long, zero_byte, doubled, unordered, too_many_keys, too_many_bytes, KeyFault as SpecFault}

@@ -1,4 +1,4 @@
-use Rattle.std.proofs.Common.{◌≡◌, length, refl, arith, rules, ◌∙◌}
+use Rattle.std.proofs.Common.{◌≡◌, length, refl, arith, ◌∙◌}
 use Rattle.sx_cli.proofs.FileReadings.{words_counted, piece_read, file_ends, last_read}
 use Rattle.sx_cli.proofs.Shelves.{kept_twice}
 use Rattle.sx_cli.proofs.file_words.read_words.Goals as goal

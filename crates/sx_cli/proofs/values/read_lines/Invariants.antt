@@ -1,4 +1,4 @@
-use Rattle.std.proofs.Common.{◌≡◌, ◌+◌, ◌-◌, ◌≤◌}
+use Rattle.std.proofs.Common.{◌≡◌, ◌+◌, ◌-◌}
 use Rattle.sx_spec.specs.World.{KeepsFiles}
 use Rattle.sx_edge.specs.Shelf.{reading}
 use Rattle.sx_cli.specs.ValueLines.{ReadingValues}
