@@ -1,4 +1,4 @@
-//! Dumps of static functions, and what they reply to lines.
+//! Dumps, and what they reply to lines.
 
 ghost use Rattle.std.specs.Prelude.{◌≡◌, ◌+◌, ◌≤◌, length};
 ghost use Rattle.sx_spec.specs.Layout.{header_of, layout};
