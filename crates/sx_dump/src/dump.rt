@@ -1,4 +1,4 @@
-//! Dumps of static functions, and what they reply to lines.
+//! Dumps, and what they reply to lines.
 
 ghost use Rattle.std.specs.Prelude.{◌≡◌, ◌+◌, ◌≤◌, length};
 ghost use Rattle.sx_spec.specs.Layout.{header_of, layout};
@@ -104,7 +104,8 @@ impl<B: WordBank + Copy> Dump<B> {
         steps: &mut Steps<L>,
     ) -> i128
         requires short { length line.now ≤ 8191 }
-        requires function { IsFunctionView self.now.header.plan (B.words_of self.now.bank) values.now }
+        requires function { IsFunctionView self.now.header.plan
+            (B.words_of self.now.bank) values.now }
         ensures value { result ≡ reply_number (reply (dump_in (B.words_of self.now.bank)) line.now) }
         ensures counted { steps.old ≤ steps.new }
         ensures cost { steps.new ≤ steps.old + reads (dump_in (B.words_of self.now.bank)) line.now }

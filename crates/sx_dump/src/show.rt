@@ -154,10 +154,12 @@ fn show_function<B: WordBank + Copy, O: Sink, L: Ledger>(
 ) -> Result<(), Failed>
     requires room { length page.old.bytes + 256 ≤ 4096 }
     ensures ok { OnOk result (IsShown (O.written out.old) (O.written out.new)
-        (page.old.bytes ++ function_lines (viewed (B.words_of values.now.bank) values.now.first values.now.width values.now.pairs))
+        (page.old.bytes ++ function_lines (viewed (B.words_of values.now.bank)
+        values.now.first values.now.width values.now.pairs))
         page.new.bytes) }
     ensures failed { OnErr result (AppendsPrefix (O.written out.old) (O.written out.new)
-        (page.old.bytes ++ function_lines (viewed (B.words_of values.now.bank) values.now.first values.now.width values.now.pairs))) }
+        (page.old.bytes ++ function_lines (viewed (B.words_of values.now.bank)
+        values.now.first values.now.width values.now.pairs))) }
     ensures cause { HasCause (O.faults out.old) (O.faults out.new) result }
     ensures counted { steps.old ≤ steps.new }
 {
@@ -248,7 +250,8 @@ impl<B: WordBank + Copy> Dump<B> {
         out: &mut O,
     ) -> Result<(), Failed>
         requires room { length page.old.bytes + 256 ≤ 4096 }
-        requires function { IsFunctionView self.now.header.plan (B.words_of self.now.bank) values.now }
+        requires function { IsFunctionView self.now.header.plan
+            (B.words_of self.now.bank) values.now }
         ensures ok { OnOk result (IsShown (O.written out.old) (O.written out.new)
             (page.old.bytes ++ section_lines (B.words_of self.now.bank)) page.new.bytes) }
         ensures failed { OnErr result (AppendsPrefix (O.written out.old) (O.written out.new)
