@@ -1,4 +1,6 @@
 //! Streams and files that follow a script, for tests.
+ghost use Rattle.std.specs.Prelude.{◌≤◌, IfOk};
+
 use std::alloc::Allocator;
 use std::fs::{Files, Metadata, OpenFile, OpenOptions};
 use std::io;
@@ -38,7 +40,9 @@ impl Scripted {
         }
     }
 
-    fn turn(&mut self, room: usize) -> io::Result<usize> {
+    fn turn(&mut self, room: usize) -> io::Result<usize>
+        ensures { IfOk result (λ count. count ≤ room) }
+    {
         let turn = turn_at(self.turns, self.calls);
         self.calls = self.calls.saturating_add(1);
         match turn {
