@@ -1,0 +1,3 @@
+pub mod Parts
+pub mod TwoSteps
+pub mod Views

@@ -1,0 +1,12 @@
+//! Distributors by longest common prefixes: what they are built from, and what they reply.
+#![tactic(auto)]
+
+mod codes;
+mod lcp;
+mod lcp2;
+mod parts;
+
+pub use codes::{TwoStep, two_step};
+pub use lcp::LcpView;
+pub use lcp2::Lcp2View;
+pub use parts::{LcpParts, lcp_parts};
