@@ -26,6 +26,8 @@ impl CalmSource {
 }
 
 impl Source for CalmSource {
+    ghost use Rattle.sx_memory.specs.Memory.{calm_left};
+
     ghost left = { λ s. Some (drop s.at s.bytes.items) };
 
     ghost faults = { λ _. 0 };
@@ -33,9 +35,10 @@ impl Source for CalmSource {
     fn read(&mut self, buf: &mut [u8]) -> Result<usize, Failed>
         requires { 0 < length buf.old }
         ensures bound { ReadsAtMost result buf.new }
-        ensures bytes { ReadConsumes (Some (drop self.old.at self.old.bytes.items)) (Some (drop self.new.at self.new.bytes.items)) result buf.new }
+        ensures bytes { ReadConsumes (Some (calm_left self.old)) (Some (calm_left self.new)) result
+            buf.new }
         ensures cause { HasCause 0 0 result }
-        ensures calm { result ≡ Ok (min (length (drop self.old.at self.old.bytes.items)) (length buf.old)) }
+        ensures calm { result ≡ Ok (min (length (calm_left self.old)) (length buf.old)) }
     {
         let count = copy_front(&self.bytes, self.at, buf);
         self.at += count;

@@ -81,7 +81,8 @@ impl Entry {
     /// Puts as many of the bytes behind those of the file as there is room for, and gives their
     /// number.
     pub(crate) fn append(&mut self, bytes: &[u8]) -> usize
-        ensures count { result ≡ min (length bytes.now) (room_in self.old - length (bytes_in self.old)) }
+        ensures count { result
+            ≡ min (length bytes.now) (room_in self.old - length (bytes_in self.old)) }
         ensures name { self.new.name.items ≡ self.old.name.items }
         ensures there { self.new.there ≡ self.old.there }
         ensures bytes { bytes_in self.new ≡ bytes_in self.old ++ take result bytes.now }

@@ -31,6 +31,8 @@ pub struct MemShelf {
 }
 
 impl MemShelf {
+    ghost use Rattle.sx_memory.specs.Shelves.{files_in, KeepsOtherRoom, MakesRoom};
+
     /// No files and no room. It fails at the calls of the numbers `fails`, counted from 1 over all
     /// five kinds of call, and where room is wanting.
     pub fn new(alloc: Global, fails: Vec<u64>) -> MemShelf
@@ -52,10 +54,12 @@ impl MemShelf {
     /// Sets one file, and makes room for its bytes. After a refusal files and room are as before.
     pub fn put(&mut self, name: &str, bytes: &[u8]) -> Result<(), AllocError>
         requires { use_of self.old.used ≡ idle }
-        ensures set { OnOk result (SetsFile name.now bytes.now (Some (files_of self.old.entries.items)) (Some (files_of self.new.entries.items))) }
-        ensures room { OnOk result (room_of self.new.entries.items name.now ≡ Some (max (unwrap_or (room_of self.old.entries.items name.now) 0) (length bytes.now))) }
-        ensures others { (other : List ℕ) → other ≢ name.now → room_of self.new.entries.items other ≡ room_of self.old.entries.items other }
-        ensures refused { OnErr result (KeepsFiles (Some (files_of self.old.entries.items)) (Some (files_of self.new.entries.items))
+        ensures set { OnOk result (SetsFile name.now bytes.now (files_in self.old)
+            (files_in self.new)) }
+        ensures room { OnOk result (MakesRoom name.now (length bytes.now) self.old.entries.items
+            self.new.entries.items) }
+        ensures others { KeepsOtherRoom name.now self.old.entries.items self.new.entries.items }
+        ensures refused { OnErr result (KeepsFiles (files_in self.old) (files_in self.new)
             × (room_of self.new.entries.items name.now ≡ room_of self.old.entries.items name.now)) }
         ensures idle { use_of self.new.used ≡ idle }
         ensures calls { self.new.calls ≡ self.old.calls }
@@ -69,10 +73,12 @@ impl MemShelf {
     /// room is as before.
     pub fn room(&mut self, name: &str, size: usize) -> Result<(), AllocError>
         requires { use_of self.old.used ≡ idle }
-        ensures files { KeepsFiles (Some (files_of self.old.entries.items)) (Some (files_of self.new.entries.items)) }
-        ensures room { OnOk result (room_of self.new.entries.items name.now ≡ Some (max (unwrap_or (room_of self.old.entries.items name.now) 0) size)) }
-        ensures others { (other : List ℕ) → other ≢ name.now → room_of self.new.entries.items other ≡ room_of self.old.entries.items other }
-        ensures refused { OnErr result (room_of self.new.entries.items name.now ≡ room_of self.old.entries.items name.now) }
+        ensures files { KeepsFiles (files_in self.old) (files_in self.new) }
+        ensures room { OnOk result (MakesRoom name.now size self.old.entries.items
+            self.new.entries.items) }
+        ensures others { KeepsOtherRoom name.now self.old.entries.items self.new.entries.items }
+        ensures refused { OnErr result (room_of self.new.entries.items name.now
+            ≡ room_of self.old.entries.items name.now) }
         ensures idle { use_of self.new.used ≡ idle }
         ensures calls { self.new.calls ≡ self.old.calls }
     {
@@ -81,7 +87,8 @@ impl MemShelf {
 
     /// The bytes of the file. `None` where no file has the name.
     pub fn bytes(&self, name: &str) -> Option<&[u8]>
-        ensures { MatchOption result (files_of self.now.entries.items name.now ≡ None) (λ bytes. files_of self.now.entries.items name.now ≡ Some bytes.now) }
+        ensures { MatchOption result (files_of self.now.entries.items name.now ≡ None)
+            (λ bytes. files_of self.now.entries.items name.now ≡ Some bytes.now) }
     {
         file_named(&self.entries, name.as_bytes())
     }
@@ -95,6 +102,8 @@ impl MemShelf {
 }
 
 impl Shelf for MemShelf {
+    ghost use Rattle.sx_memory.specs.Shelves.{files_in, rest_in, name_in, room_in_use, KeepsRoom};
+
     ghost in_use = { λ s. use_of s.used };
 
     ghost files = { λ s. Some (files_of s.entries.items) };
@@ -107,10 +116,12 @@ impl Shelf for MemShelf {
 
     fn open_file(&mut self, name: &str) -> Result<bool, Failed>
         requires { use_of self.old.used ≡ idle }
-        ensures found { result ≡ Ok true → (use_of self.new.used ≡ reading) × Opens name.now (Some (files_of self.old.entries.items)) (rest_of self.new.used self.new.entries.items) }
-        ensures absent { result ≡ Ok false → (use_of self.new.used ≡ idle) × IsAbsent name.now (Some (files_of self.old.entries.items)) }
+        ensures found { result ≡ Ok true → (use_of self.new.used ≡ reading)
+            × Opens name.now (files_in self.old) (rest_in self.new) }
+        ensures absent { result ≡ Ok false → (use_of self.new.used ≡ idle)
+            × IsAbsent name.now (files_in self.old) }
         ensures failed { OnErr result (use_of self.new.used ≡ idle) }
-        ensures files { KeepsFiles (Some (files_of self.old.entries.items)) (Some (files_of self.new.entries.items)) }
+        ensures files { KeepsFiles (files_in self.old) (files_in self.new) }
         ensures cause { HasCause self.old.calls.faults self.new.calls.faults result }
         ensures exact { is_err result ≡ is_due self.old.calls }
         ensures entries { self.new.entries ≡ self.old.entries }
@@ -130,10 +141,11 @@ impl Shelf for MemShelf {
         requires reading { use_of self.old.used ≡ reading }
         requires room { 0 < length buf.old }
         ensures bound { ReadsAtMost result buf.new }
-        ensures count { IfOk result (λ count. IfSome (rest_of self.old.used self.old.entries.items) (λ rest. count ≡ min (length rest) (length buf.old))) }
-        ensures bytes { ReadConsumes (rest_of self.old.used self.old.entries.items) (rest_of self.new.used self.new.entries.items) result buf.new }
+        ensures count { IfOk result (λ count. IfSome (rest_in self.old)
+            (λ rest. count ≡ min (length rest) (length buf.old))) }
+        ensures bytes { ReadConsumes (rest_in self.old) (rest_in self.new) result buf.new }
         ensures stays { use_of self.new.used ≡ reading }
-        ensures files { KeepsFiles (Some (files_of self.old.entries.items)) (Some (files_of self.new.entries.items)) }
+        ensures files { KeepsFiles (files_in self.old) (files_in self.new) }
         ensures cause { HasCause self.old.calls.faults self.new.calls.faults result }
         ensures exact { is_err result ≡ is_due self.old.calls }
         ensures entries { self.new.entries ≡ self.old.entries }
@@ -155,13 +167,17 @@ impl Shelf for MemShelf {
 
     fn create(&mut self, name: &str) -> Result<(), Failed>
         requires { use_of self.old.used ≡ idle }
-        ensures made { OnOk result ((use_of self.new.used ≡ writing) × SetsFile name.now [] (Some (files_of self.old.entries.items)) (Some (files_of self.new.entries.items))) }
-        ensures named { OnOk result (IsSome (Some (files_of self.old.entries.items)) → name_of self.new.used self.new.entries.items ≡ Some name.now) }
+        ensures made { OnOk result ((use_of self.new.used ≡ writing)
+            × SetsFile name.now [] (files_in self.old) (files_in self.new)) }
+        ensures named { OnOk result
+            (IsSome (files_in self.old) → name_in self.new ≡ Some name.now) }
         ensures failed { OnErr result ((use_of self.new.used ≡ idle)
-            × (KeepsFiles (Some (files_of self.old.entries.items)) (Some (files_of self.new.entries.items)) ⊎ SetsFile name.now [] (Some (files_of self.old.entries.items)) (Some (files_of self.new.entries.items)))) }
+            × (KeepsFiles (files_in self.old) (files_in self.new)
+            ⊎ SetsFile name.now [] (files_in self.old) (files_in self.new))) }
         ensures cause { HasCause self.old.calls.faults self.new.calls.faults result }
-        ensures exact { is_err result ≡ (is_due self.old.calls || not (is_some (room_of self.old.entries.items name.now))) }
-        ensures room { (other : List ℕ) → room_of self.new.entries.items other ≡ room_of self.old.entries.items other }
+        ensures exact { is_err result
+            ≡ (is_due self.old.calls || not (is_some (room_of self.old.entries.items name.now))) }
+        ensures room { KeepsRoom self.old.entries.items self.new.entries.items }
         ensures calls { OnOk result (self.new.calls ≡ called self.old.calls) }
         ensures refused { OnErr result (self.new.calls ≡ refused self.old.calls) }
         ensures kept { OnErr result (self.new.entries ≡ self.old.entries) }
@@ -180,14 +196,15 @@ impl Shelf for MemShelf {
         requires writing { use_of self.old.used ≡ writing }
         requires some { 0 < length buf.now }
         ensures bound { IfOk result (λ count. (1 ≤ count) × (count ≤ length buf.now)) }
-        ensures count { IfOk result (λ count. count ≡ min (length buf.now) (room_left self.old.used self.old.entries.items)) }
-        ensures bytes { IfOk result (λ count. AppendsFile (name_of self.old.used self.old.entries.items) (Some (files_of self.old.entries.items)) (Some (files_of self.new.entries.items)) (take count buf.now)) }
-        ensures failed { OnErr result (KeepsFiles (Some (files_of self.old.entries.items)) (Some (files_of self.new.entries.items))) }
+        ensures count { IfOk result (λ count. count ≡ min (length buf.now) (room_in_use self.old)) }
+        ensures bytes { IfOk result (λ count. AppendsFile (name_in self.old) (files_in self.old)
+            (files_in self.new) (take count buf.now)) }
+        ensures failed { OnErr result (KeepsFiles (files_in self.old) (files_in self.new)) }
         ensures stays { use_of self.new.used ≡ writing }
-        ensures same { name_of self.new.used self.new.entries.items ≡ name_of self.old.used self.old.entries.items }
+        ensures same { name_in self.new ≡ name_in self.old }
         ensures cause { HasCause self.old.calls.faults self.new.calls.faults result }
-        ensures exact { is_err result ≡ (is_due self.old.calls || room_left self.old.used self.old.entries.items == 0) }
-        ensures room { (other : List ℕ) → room_of self.new.entries.items other ≡ room_of self.old.entries.items other }
+        ensures exact { is_err result ≡ (is_due self.old.calls || room_in_use self.old == 0) }
+        ensures room { KeepsRoom self.old.entries.items self.new.entries.items }
         ensures calls { OnOk result (self.new.calls ≡ called self.old.calls) }
         ensures refused { OnErr result (self.new.calls ≡ refused self.old.calls) }
     {
@@ -207,7 +224,7 @@ impl Shelf for MemShelf {
     fn close(&mut self) -> Result<(), Failed>
         requires { use_of self.old.used ≢ idle }
         ensures idle { use_of self.new.used ≡ idle }
-        ensures files { KeepsFiles (Some (files_of self.old.entries.items)) (Some (files_of self.new.entries.items)) }
+        ensures files { KeepsFiles (files_in self.old) (files_in self.new) }
         ensures cause { HasCause self.old.calls.faults self.new.calls.faults result }
         ensures exact { is_err result ≡ is_due self.old.calls }
         ensures entries { self.new.entries ≡ self.old.entries }

@@ -67,6 +67,8 @@ impl MemSink {
 }
 
 impl Sink for MemSink {
+    ghost use Rattle.sx_memory.specs.Memory.{told, sink_room};
+
     ghost written = { λ s. Some (take s.len s.slots.items) };
 
     ghost faults = { λ s. s.calls.faults };
@@ -74,11 +76,14 @@ impl Sink for MemSink {
     fn write(&mut self, buf: &[u8]) -> Result<usize, Failed>
         requires { 0 < length buf.now }
         ensures bound { IfOk result (λ count. (1 ≤ count) × (count ≤ length buf.now)) }
-        ensures bytes { IfOk result (λ count. Appends (Some (take self.old.len self.old.slots.items)) (Some (take self.new.len self.new.slots.items)) (take count buf.now)) }
-        ensures failed { OnErr result (Keeps (Some (take self.old.len self.old.slots.items)) (Some (take self.new.len self.new.slots.items))) }
+        ensures bytes { IfOk result
+            (λ count. Appends (told self.old) (told self.new) (take count buf.now)) }
+        ensures failed { OnErr result (Keeps (told self.old) (told self.new)) }
         ensures cause { HasCause self.old.calls.faults self.new.calls.faults result }
-        ensures count { IfOk result (λ count. count ≡ min (min (length buf.now) self.old.piece) (length self.old.slots.items - self.old.len)) }
-        ensures exact { is_err result ≡ (is_due self.old.calls || self.old.len == length self.old.slots.items) }
+        ensures count { IfOk result (λ count. count ≡ min (min (length buf.now) self.old.piece)
+            (sink_room self.old - self.old.len)) }
+        ensures exact { is_err result
+            ≡ (is_due self.old.calls || self.old.len == sink_room self.old) }
         ensures calls { OnOk result (self.new.calls ≡ called self.old.calls) }
         ensures refused { OnErr result (self.new.calls ≡ refused self.old.calls) }
         ensures room { length self.new.slots.items ≡ length self.old.slots.items }

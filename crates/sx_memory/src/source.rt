@@ -56,6 +56,8 @@ impl MemSource {
 }
 
 impl Source for MemSource {
+    ghost use Rattle.sx_memory.specs.Memory.{bytes_left};
+
     ghost left = { λ s. Some (drop s.at s.bytes.items) };
 
     ghost faults = { λ s. s.calls.faults };
@@ -63,9 +65,11 @@ impl Source for MemSource {
     fn read(&mut self, buf: &mut [u8]) -> Result<usize, Failed>
         requires { 0 < length buf.old }
         ensures bound { ReadsAtMost result buf.new }
-        ensures bytes { ReadConsumes (Some (drop self.old.at self.old.bytes.items)) (Some (drop self.new.at self.new.bytes.items)) result buf.new }
+        ensures bytes { ReadConsumes (Some (bytes_left self.old)) (Some (bytes_left self.new))
+            result buf.new }
         ensures cause { HasCause self.old.calls.faults self.new.calls.faults result }
-        ensures count { IfOk result (λ count. count ≡ min (min (length (drop self.old.at self.old.bytes.items)) self.old.piece) (length buf.old)) }
+        ensures count { IfOk result (λ count. count ≡ min
+            (min (length (bytes_left self.old)) self.old.piece) (length buf.old)) }
         ensures exact { is_err result ≡ is_due self.old.calls }
         ensures calls { self.new.calls ≡ called self.old.calls }
         ensures piece { self.new.piece ≡ self.old.piece }
