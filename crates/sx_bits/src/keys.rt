@@ -36,7 +36,8 @@ fn piece_of<'a>(bytes: &'a [u8], ends: &[u32], i: usize) -> &'a [u8]
 fn append(bytes: &mut Vec<u8>, ends: &mut Vec<u32>, line: &[u8]) -> Result<(), AllocError>
     requires { vec_len bytes.old + length line.now < 2 ^ 32 }
     ensures bytes_after { OnOk result (bytes.new.items ≡ bytes.old.items ++ line.now) }
-    ensures ends_after { OnOk result (ends.new.items ≡ ends.old.items ++ (length bytes.old.items + length line.now) ∷ []) }
+    ensures ends_after { OnOk result (ends.new.items ≡ ends.old.items
+        ++ (length bytes.old.items + length line.now) ∷ []) }
     ensures bytes_kept { OnErr result (bytes.new.items ≡ bytes.old.items) }
     ensures ends_kept { OnErr result (ends.new.items ≡ ends.old.items) }
 {
@@ -102,11 +103,13 @@ impl KeyList {
     /// Puts a key of at most `max_line` bytes at the end, or tells the first reason against it.
     pub fn push(&mut self, line: &[u8]) -> Result<(), KeyFault>
         requires { length line.now ≤ self.old.limits.max_line }
-        ensures ok { OnOk result (self.new ≡ record self.old { lines = self.old.lines ++ line.now ∷ [] }) }
+        ensures ok { OnOk result (self.new
+            ≡ record self.old { lines = self.old.lines ++ line.now ∷ [] }) }
         ensures err { OnErr result (self.new ≡ self.old) }
         ensures limits { self.new.limits ≡ self.old.limits }
         // want of memory comes only where no reason is against the line
-        ensures refusal { MatchResult result (λ _. refusal self.old.limits self.old.lines line.now ≡ None)
+        ensures refusal { MatchResult result
+            (λ _. refusal self.old.limits self.old.lines line.now ≡ None)
             (λ fault. refusal self.old.limits self.old.lines line.now ≡ reason_of fault) }
     {
         match self.first_fault(line) {
@@ -131,7 +134,8 @@ impl KeyList {
 
     /// How the line stands to the last key, if there is one.
     fn order_to_last(&self, line: &[u8]) -> Option<Ordering>
-        ensures { (test : Order → Bool) → compares_to_last test self.now.lines line.now ≡ passes test result }
+        ensures { (test : Order → Bool) → compares_to_last test self.now.lines line.now
+            ≡ passes test result }
     {
         let count = self.len();
         if count == 0 {

@@ -63,7 +63,8 @@ impl<'a> BitView<'a> {
     /// holds behind them is free. `from` is at most the length.
     pub fn fill(&self, from: u32, buf: &mut [u8; 64]) -> usize
         requires { from ≤ length (bits_of self.now) }
-        ensures packed { take result buf.new ≡ packed_bytes (take 512 (drop from (bits_of self.now))) }
+        ensures packed { take result buf.new
+            ≡ packed_bytes (take 512 (drop from (bits_of self.now))) }
         ensures count { result ≡ div_ceil (min 512 (length (bits_of self.now) - from)) 8 }
         ensures bound { result ≤ 64 }
     {

@@ -21,7 +21,8 @@ fn number_of(bytes: &[u8]) -> u64
 #[inline(always)]
 fn shifted_word(high: u64, low: u8, shift: u32) -> u64
     requires { shift < 8 }
-    ensures first { (k : ℕ) → shift ≤ k → k < 64 → number_bit result k ≡ number_bit high (k - shift) }
+    ensures first { (k : ℕ) → shift ≤ k → k < 64
+        → number_bit result k ≡ number_bit high (k - shift) }
     ensures last { (k : ℕ) → k < shift → number_bit result k ≡ number_bit low (8 - shift + k) }
 {
     high << shift | u64::from(low) >> (8 - shift)
@@ -41,7 +42,8 @@ fn word_of(bytes: &[u8], shift: u32) -> u64
 /// The 64 bits of the line from bit `start` on.
 pub(crate) fn word_at(line: &[u8], start: u32) -> u64
     requires { start ≤ 131072 }
-    ensures { (j : ℕ) → j < 64 → (number_bit result (63 - j) == 1) ≡ bit_at (key_bits line.now) (start + j) }
+    ensures { (j : ℕ) → j < 64
+        → (number_bit result (63 - j) == 1) ≡ bit_at (key_bits line.now) (start + j) }
 {
     let first = (start / 8) as usize;
     if first + 9 <= line.len() {

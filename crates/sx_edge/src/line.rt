@@ -86,7 +86,14 @@ impl LineReader {
     /// A reader of lines of at most `max` bytes. All its memory is taken here.
     pub fn new(alloc: Global, max: usize) -> Result<LineReader, AllocError>
         requires { max ≤ 2 ^ 20 }
-        ensures { IfOk result (λ r. r ≡ record { max = max; number = 0; held = []; ended = false; fault = None; line = None }) }
+        ensures { IfOk result (λ r. r ≡ record {
+          max = max;
+          number = 0;
+          held = [];
+          ended = false;
+          fault = None;
+          line = None;
+        }) }
     {
         let buf = line_room(alloc, max)?;
         Ok(LineReader {
@@ -133,16 +140,20 @@ impl LineReader {
     /// fault and reads nothing.
     pub fn next<S: Source>(&mut self, src: &mut S) -> Result<Step, LineFault>
         requires { self.old.number < 2 ^ 64 - 1 }
-        ensures line { result ≡ Ok Step.Line → GivesLine self.old self.new (S.left src.old) (S.left src.new) }
-        ensures end { result ≡ Ok Step.End → GivesEnd self.old self.new (S.left src.old) (S.left src.new) }
+        ensures line { result ≡ Ok Step.Line
+            → GivesLine self.old self.new (S.left src.old) (S.left src.new) }
+        ensures end { result ≡ Ok Step.End
+            → GivesEnd self.old self.new (S.left src.old) (S.left src.new) }
         ensures read_fault { result ≡ Err ReadFault → self.old.fault ≡ None
             → FailsRead self.old self.new (S.left src.old) (S.left src.new) × Rose (S.faults src.old) (S.faults src.new) }
         ensures too_long { (n : ℕ) → result ≡ Err (TooLong n) → self.old.fault ≡ None
             → IsTooLong self.old self.new (S.left src.old) (S.left src.new) n }
         ensures again { IfSome self.old.fault (λ fault. (result ≡ Err fault) × (self.new ≡ self.old)
             × ReadsNothing (S.left src.old) (S.left src.new) (S.faults src.old) (S.faults src.new)) }
-        ensures fault { MatchResult result (λ _. self.new.fault ≡ None) (λ fault. self.new.fault ≡ Some fault) }
-        ensures ready { is_ready self.old ≡ true → ReadsNothing (S.left src.old) (S.left src.new) (S.faults src.old) (S.faults src.new) }
+        ensures fault { MatchResult result (λ _. self.new.fault ≡ None)
+            (λ fault. self.new.fault ≡ Some fault) }
+        ensures ready { is_ready self.old ≡ true
+            → ReadsNothing (S.left src.old) (S.left src.new) (S.faults src.old) (S.faults src.new) }
         ensures same { self.new.max ≡ self.old.max }
         ensures number { self.new.number ≤ self.old.number + 1 }
         ensures counts { StaysUnless (read_failed result) (S.faults src.old) (S.faults src.new) }
@@ -154,19 +165,25 @@ impl LineReader {
     pub fn next_file<F: Shelf>(&mut self, files: &mut F) -> Result<Step, LineFault>
         requires number { self.old.number < 2 ^ 64 - 1 }
         requires reading { F.in_use files.old ≡ reading }
-        ensures line { result ≡ Ok Step.Line → GivesLine self.old self.new (F.rest files.old) (F.rest files.new) }
-        ensures end { result ≡ Ok Step.End → GivesEnd self.old self.new (F.rest files.old) (F.rest files.new) }
+        ensures line { result ≡ Ok Step.Line
+            → GivesLine self.old self.new (F.rest files.old) (F.rest files.new) }
+        ensures end { result ≡ Ok Step.End
+            → GivesEnd self.old self.new (F.rest files.old) (F.rest files.new) }
         ensures read_fault { result ≡ Err ReadFault → self.old.fault ≡ None
             → FailsRead self.old self.new (F.rest files.old) (F.rest files.new) × Rose (F.faults files.old) (F.faults files.new) }
         ensures too_long { (n : ℕ) → result ≡ Err (TooLong n) → self.old.fault ≡ None
             → IsTooLong self.old self.new (F.rest files.old) (F.rest files.new) n }
         ensures again { IfSome self.old.fault (λ fault. (result ≡ Err fault) × (self.new ≡ self.old)
             × ReadsNothing (F.rest files.old) (F.rest files.new) (F.faults files.old) (F.faults files.new)) }
-        ensures fault { MatchResult result (λ _. self.new.fault ≡ None) (λ fault. self.new.fault ≡ Some fault) }
-        ensures ready { is_ready self.old ≡ true → ReadsNothing (F.rest files.old) (F.rest files.new) (F.faults files.old) (F.faults files.new) }
+        ensures fault { MatchResult result (λ _. self.new.fault ≡ None)
+            (λ fault. self.new.fault ≡ Some fault) }
+        ensures ready { is_ready self.old ≡ true
+            → ReadsNothing (F.rest files.old) (F.rest files.new) (F.faults files.old)
+            (F.faults files.new) }
         ensures same { self.new.max ≡ self.old.max }
         ensures number { self.new.number ≤ self.old.number + 1 }
-        ensures counts { StaysUnless (read_failed result) (F.faults files.old) (F.faults files.new) }
+        ensures counts { StaysUnless (read_failed result) (F.faults files.old)
+            (F.faults files.new) }
         ensures stays { F.in_use files.new ≡ reading }
         ensures files { KeepsFiles (F.files files.old) (F.files files.new) }
     {
@@ -187,7 +204,8 @@ impl LineReader {
             → IsTooLong self.old self.new (P.left from.old) (P.left from.new) n }
         ensures again { IfSome self.old.fault (λ fault. (result ≡ Err fault) × (self.new ≡ self.old)
             × ReadsNothing (P.left from.old) (P.left from.new) (P.faults from.old) (P.faults from.new)) }
-        ensures fault { MatchResult result (λ _. self.new.fault ≡ None) (λ fault. self.new.fault ≡ Some fault) }
+        ensures fault { MatchResult result (λ _. self.new.fault ≡ None)
+            (λ fault. self.new.fault ≡ Some fault) }
         ensures ready { is_ready self.old ≡ true
             → ReadsNothing (P.left from.old) (P.left from.new) (P.faults from.old) (P.faults from.new) }
         ensures same { self.new.max ≡ self.old.max }
@@ -236,7 +254,8 @@ impl LineReader {
         requires ready { is_ready self.old ≡ false }
         requires may_read { P.may_read from.old }
         ensures bytes { OnOk result (Fills self.old self.new (P.left from.old) (P.left from.new)) }
-        ensures failed { OnErr result (Keeps (P.left from.old) (P.left from.new) × (self.new.held ≡ self.old.held) × (self.new.ended ≡ self.old.ended)) }
+        ensures failed { OnErr result (Keeps (P.left from.old) (P.left from.new)
+            × (self.new.held ≡ self.old.held) × (self.new.ended ≡ self.old.ended)) }
         ensures same { SameBut self.old self.new }
         ensures cause { HasCause (P.faults from.old) (P.faults from.new) result }
         ensures stays { P.may_read from.new }
@@ -260,12 +279,15 @@ impl LineReader {
         requires fault { self.old.fault ≡ None }
         requires ready { is_ready self.old ≡ true }
         ensures line { result ≡ Ok Step.Line → CutsLine self.old self.new }
-        ensures end { result ≡ Ok Step.End → (self.old.ended ≡ true) × (self.new.ended ≡ true) × (self.old.held ≡ []) × (self.new.held ≡ []) × (self.new.number ≡ self.old.number) }
+        ensures end { result ≡ Ok Step.End → (self.old.ended ≡ true) × (self.new.ended ≡ true)
+            × (self.old.held ≡ []) × (self.new.held ≡ []) × (self.new.number ≡ self.old.number) }
         ensures read { result ≢ Err ReadFault }
-        ensures too_long { (n : ℕ) → result ≡ Err (TooLong n) → (n ≡ self.old.number + 1) × (self.new.number ≡ self.old.number)
+        ensures too_long { (n : ℕ) → result ≡ Err (TooLong n) → (n ≡ self.old.number + 1)
+            × (self.new.number ≡ self.old.number)
             × (self.new.held ≡ self.old.held) × (self.new.ended ≡ self.old.ended)
             × ((rest : List ℕ) → self.old.max < length (first_line (self.old.held ++ rest))) }
-        ensures fault { MatchResult result (λ _. self.new.fault ≡ None) (λ fault. self.new.fault ≡ Some fault) }
+        ensures fault { MatchResult result (λ _. self.new.fault ≡ None)
+            (λ fault. self.new.fault ≡ Some fault) }
         ensures same { self.new.max ≡ self.old.max }
     {
         if self.feed - self.start > self.max {
@@ -318,7 +340,8 @@ pub(crate) fn read_behind<P: Feed<T>, T>(
 ) -> Result<usize, Failed>
     requires room { len < length buf.old }
     requires may_read { P.may_read from.old }
-    ensures took { IfOk result (λ count. TakesBehind (P.left from.old) (P.left from.new) buf.old buf.new len count) }
+    ensures took { IfOk result
+        (λ count. TakesBehind (P.left from.old) (P.left from.new) buf.old buf.new len count) }
     ensures failed { OnErr result (Keeps (P.left from.old) (P.left from.new)) }
     ensures front { take len buf.new ≡ take len buf.old }
     ensures cause { HasCause (P.faults from.old) (P.faults from.new) result }

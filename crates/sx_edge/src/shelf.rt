@@ -33,8 +33,10 @@ pub trait Shelf {
     /// answer and no fault: the count stays.
     fn open_file(&mut self, name: &str) -> Result<bool, Failed>
         requires { in_use self.old ≡ idle }
-        ensures found { result ≡ Ok true → (in_use self.new ≡ reading) × Opens name.now (files self.old) (rest self.new) }
-        ensures absent { result ≡ Ok false → (in_use self.new ≡ idle) × IsAbsent name.now (files self.old) }
+        ensures found { result ≡ Ok true → (in_use self.new ≡ reading)
+            × Opens name.now (files self.old) (rest self.new) }
+        ensures absent { result ≡ Ok false → (in_use self.new ≡ idle)
+            × IsAbsent name.now (files self.old) }
         ensures failed { OnErr result (in_use self.new ≡ idle) }
         ensures files { KeepsFiles (files self.old) (files self.new) }
         ensures cause { HasCause (faults self.old) (faults self.new) result };
@@ -52,8 +54,10 @@ pub trait Shelf {
     /// Makes the file empty, also where none was there, and opens it to be written.
     fn create(&mut self, name: &str) -> Result<(), Failed>
         requires { in_use self.old ≡ idle }
-        ensures made { OnOk result ((in_use self.new ≡ writing) × SetsFile name.now [] (files self.old) (files self.new)) }
-        ensures named { OnOk result (IsSome (files self.old) → writing_to self.new ≡ Some name.now) }
+        ensures made { OnOk result ((in_use self.new ≡ writing)
+            × SetsFile name.now [] (files self.old) (files self.new)) }
+        ensures named { OnOk result
+            (IsSome (files self.old) → writing_to self.new ≡ Some name.now) }
         ensures failed { OnErr result ((in_use self.new ≡ idle)
             × (KeepsFiles (files self.old) (files self.new) ⊎ SetsFile name.now [] (files self.old) (files self.new))) }
         ensures cause { HasCause (faults self.old) (faults self.new) result };
@@ -64,7 +68,8 @@ pub trait Shelf {
         requires writing { in_use self.old ≡ writing }
         requires some { 0 < length buf.now }
         ensures bound { IfOk result (λ count. (1 ≤ count) × (count ≤ length buf.now)) }
-        ensures bytes { IfOk result (λ count. AppendsFile (writing_to self.old) (files self.old) (files self.new) (take count buf.now)) }
+        ensures bytes { IfOk result (λ count. AppendsFile (writing_to self.old) (files self.old)
+            (files self.new) (take count buf.now)) }
         ensures failed { OnErr result (KeepsFiles (files self.old) (files self.new)) }
         ensures stays { in_use self.new ≡ writing }
         ensures same { writing_to self.new ≡ writing_to self.old }
@@ -81,8 +86,10 @@ pub trait Shelf {
 /// Appends all the bytes to the file being written. Where the shelf fails, a prefix was appended.
 pub fn write_file<F: Shelf>(files: &mut F, bytes: &[u8]) -> Result<(), Failed>
     requires { F.in_use files.old ≡ writing }
-    ensures ok { OnOk result (AppendsFile (F.writing_to files.old) (F.files files.old) (F.files files.new) bytes.now) }
-    ensures failed { OnErr result (AppendsFilePrefix (F.writing_to files.old) (F.files files.old) (F.files files.new) bytes.now) }
+    ensures ok { OnOk result (AppendsFile (F.writing_to files.old) (F.files files.old)
+        (F.files files.new) bytes.now) }
+    ensures failed { OnErr result (AppendsFilePrefix (F.writing_to files.old) (F.files files.old)
+        (F.files files.new) bytes.now) }
     ensures stays { F.in_use files.new ≡ writing }
     ensures same { F.writing_to files.new ≡ F.writing_to files.old }
     ensures cause { HasCause (F.faults files.old) (F.faults files.new) result }

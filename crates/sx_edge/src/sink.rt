@@ -19,7 +19,8 @@ pub trait Sink {
     fn write(&mut self, buf: &[u8]) -> Result<usize, Failed>
         requires { 0 < length buf.now }
         ensures bound { IfOk result (λ count. (1 ≤ count) × (count ≤ length buf.now)) }
-        ensures bytes { IfOk result (λ count. Appends (written self.old) (written self.new) (take count buf.now)) }
+        ensures bytes { IfOk result
+            (λ count. Appends (written self.old) (written self.new) (take count buf.now)) }
         ensures failed { OnErr result (Keeps (written self.old) (written self.new)) }
         ensures cause { HasCause (faults self.old) (faults self.new) result };
 }
@@ -27,7 +28,8 @@ pub trait Sink {
 /// Writes all the bytes. Where the sink fails, a prefix of them was written.
 pub fn write_all<K: Sink>(sink: &mut K, bytes: &[u8]) -> Result<(), Failed>
     ensures ok { OnOk result (Appends (K.written sink.old) (K.written sink.new) bytes.now) }
-    ensures failed { OnErr result (AppendsPrefix (K.written sink.old) (K.written sink.new) bytes.now) }
+    ensures failed { OnErr result (AppendsPrefix (K.written sink.old) (K.written sink.new)
+        bytes.now) }
     ensures cause { HasCause (K.faults sink.old) (K.faults sink.new) result }
 {
     let mut rest = bytes;

@@ -29,7 +29,8 @@ fn are_sums_counted<F: Fields, L: Ledger>(
     requires few { bits < 2 ^ 34 }
     requires within { bits ≤ 64 * length upper.now }
     requires narrow { F.bits low.now ≤ 63 }
-    ensures { result ≡ is_sums_of (length (F.items low.now)) below (F.bits low.now) (ones_of bits (words_number upper.now)) (F.items low.now) }
+    ensures { result ≡ is_sums_of (length (F.items low.now)) below (F.bits low.now)
+        (ones_of bits (words_number upper.now)) (F.items low.now) }
 {
     let mut steps = Steps::<L>::new(blank);
     let count = low.len();
@@ -59,7 +60,8 @@ fn are_sums<F: Fields>(upper: &[u64], bits: u64, low: &F, below: u64) -> bool
     requires few { bits < 2 ^ 34 }
     requires within { bits ≤ 64 * length upper.now }
     requires narrow { F.bits low.now ≤ 63 }
-    ensures { result ≡ is_sums_of (length (F.items low.now)) below (F.bits low.now) (ones_of bits (words_number upper.now)) (F.items low.now) }
+    ensures { result ≡ is_sums_of (length (F.items low.now)) below (F.bits low.now)
+        (ones_of bits (words_number upper.now)) (F.items low.now) }
 {
     are_sums_counted::<F, Brand>(upper, bits, low, below, Blank::new(1))
 }
@@ -71,7 +73,8 @@ fn starts_counted<F: Fields, L: Ledger>(upper: &[u64], low: &F, blank: Blank) ->
     requires some { 0 < blank.parts }
     requires upper { 0 < length upper.now }
     requires low { 0 < length (F.items low.now) }
-    ensures { result ≡ (bit_at (words_number upper.now) 0 == 1 && slice_index (F.items low.now) 0 == 0) }
+    ensures { result
+        ≡ (bit_at (words_number upper.now) 0 == 1 && slice_index (F.items low.now) 0 == 0) }
 {
     let mut steps = Steps::<L>::new(blank);
     upper[0] & 1 == 1 && low.get(0, &mut steps) == 0
@@ -81,7 +84,8 @@ fn starts_counted<F: Fields, L: Ledger>(upper: &[u64], low: &F, blank: Blank) ->
 fn starts_at_zero<F: Fields>(upper: &[u64], low: &F) -> bool
     requires upper { 0 < length upper.now }
     requires low { 0 < length (F.items low.now) }
-    ensures { result ≡ (bit_at (words_number upper.now) 0 == 1 && slice_index (F.items low.now) 0 == 0) }
+    ensures { result
+        ≡ (bit_at (words_number upper.now) 0 == 1 && slice_index (F.items low.now) 0 == 0) }
 {
     starts_counted::<F, Brand>(upper, low, Blank::new(1))
 }
@@ -93,7 +97,8 @@ pub(crate) fn are_sums_from_zero<F: Fields>(upper: &[u64], bits: u64, low: &F, b
     requires narrow { F.bits low.now ≤ 63 }
     requires upper { 0 < length upper.now }
     requires low { 0 < length (F.items low.now) }
-    ensures { result ≡ is_sums_from_zero (length (F.items low.now)) below (F.bits low.now) (ones_of bits (words_number upper.now)) (F.items low.now) }
+    ensures { result ≡ is_sums_from_zero (length (F.items low.now)) below (F.bits low.now)
+        (ones_of bits (words_number upper.now)) (F.items low.now) }
 {
     are_sums(upper, bits, low, below) && starts_at_zero(upper, low)
 }

@@ -48,8 +48,10 @@ fn pack_low(alloc: Global, list: &[u64], width: u32) -> Result<Vec<u64>, AllocEr
 fn set_places(alloc: Global, list: &[u64], width: u32, bits: u64) -> Result<Vec<u64>, AllocError>
     requires narrow { width ≤ 63 }
     requires short { length list.now < 2 ^ 32 }
-    requires rising { (i : ℕ) → i + 1 < length list.now → slice_index list.now i ≤ slice_index list.now (i + 1) }
-    requires within { (i : ℕ) → i < length list.now → slice_index list.now i / 2 ^ width + i < bits }
+    requires rising { (i : ℕ) → i + 1 < length list.now
+        → slice_index list.now i ≤ slice_index list.now (i + 1) }
+    requires within { (i : ℕ) → i < length list.now
+        → slice_index list.now i / 2 ^ width + i < bits }
     ensures { IfOk result (λ v. v.items ≡ number_words bits (places_number width list.now)) }
 {
     let mut upper = vec![in alloc; 0u64; bits.div_ceil(64) as usize]?;
@@ -67,14 +69,17 @@ fn set_places(alloc: Global, list: &[u64], width: u32, bits: u64) -> Result<Vec<
 pub(crate) fn encode(alloc: Global, list: &[u64]) -> Result<EfBuf, AllocError>
     requires some { 0 < length list.now }
     requires short { length list.now < 2 ^ 32 }
-    requires rising { (i : ℕ) → i + 1 < length list.now → slice_index list.now i ≤ slice_index list.now (i + 1) }
+    requires rising { (i : ℕ) → i + 1 < length list.now
+        → slice_index list.now i ≤ slice_index list.now (i + 1) }
     requires last { below_of list.now < 2 ^ 64 }
     ensures count { IfOk result (λ e. e.count ≡ length list.now) }
     ensures below { IfOk result (λ e. e.below ≡ below_of list.now) }
     ensures low { IfOk result (λ e. e.low.items ≡ low_words list.now) }
     ensures upper { IfOk result (λ e. e.upper.items ≡ upper_words list.now) }
-    ensures valid { IfOk result (λ e. is_sums_list e.count e.below (e.low.items ++ e.upper.items) ≡ true) }
-    ensures numbers { IfOk result (λ e. numbers_in e.count e.below (e.low.items ++ e.upper.items) ≡ list.now) }
+    ensures valid { IfOk result
+        (λ e. is_sums_list e.count e.below (e.low.items ++ e.upper.items) ≡ true) }
+    ensures numbers { IfOk result
+        (λ e. numbers_in e.count e.below (e.low.items ++ e.upper.items) ≡ list.now) }
 {
     let count = list.len() as u64;
     let below = list[list.len() - 1] + 1;

@@ -74,7 +74,8 @@ fn checked_bound(rest: &[u64], count: u64) -> Result<u64, u8>
     ensures below { IfOk result (λ below. below ≡ slice_index rest.now 1) }
     ensures above { IfOk result (λ below. 0 < below) }
     ensures valid { IfOk result (λ below. is_sums_list count below (drop 2 rest.now) ≡ true) }
-    ensures long { IfOk result (λ below. low_size count below + upper_size count below + 2 ≤ length rest.now) }
+    ensures long { IfOk result
+        (λ below. low_size count below + upper_size count below + 2 ≤ length rest.now) }
 {
     if rest.len() < 2 {
         return Err(LENGTH_CHECK);
@@ -110,7 +111,8 @@ pub fn sums_check(words: &[u64], at: usize, count: u64) -> Result<Sums, u8>
     ensures section { IfOk result (λ s.
         section_of (sums_rule count) (drop at words.now) ≡ sums_section (numbers_in s.count s.below (drop s.body words.now))) }
     ensures valid { IfOk result (λ s. is_sums_list s.count s.below (drop s.body words.now) ≡ true) }
-    ensures size { IfOk result (λ s. s.body + low_size s.count s.below + upper_size s.count s.below ≡ s.after) }
+    ensures size { IfOk result
+        (λ s. s.body + low_size s.count s.below + upper_size s.count s.below ≡ s.after) }
     ensures after { IfOk result (λ s. s.after ≤ length words.now) }
     ensures count { IfOk result (λ s. s.count ≡ count) }
     ensures above { IfOk result (λ s. 0 < s.below) }

@@ -39,14 +39,17 @@ impl EliasFano<Words<'static>> {
     pub fn encode(alloc: Global, list: &[u64]) -> Result<EfBuf, AllocError>
         requires some { 0 < length list.now }
         requires short { length list.now < 2 ^ 32 }
-        requires rising { (i : ℕ) → i + 1 < length list.now → slice_index list.now i ≤ slice_index list.now (i + 1) }
+        requires rising { (i : ℕ) → i + 1 < length list.now
+            → slice_index list.now i ≤ slice_index list.now (i + 1) }
         requires last { below_of list.now < 2 ^ 64 }
         ensures count { IfOk result (λ e. e.count ≡ length list.now) }
         ensures below { IfOk result (λ e. e.below ≡ below_of list.now) }
         ensures low { IfOk result (λ e. e.low.items ≡ low_words list.now) }
         ensures upper { IfOk result (λ e. e.upper.items ≡ upper_words list.now) }
-        ensures valid { IfOk result (λ e. is_sums_list e.count e.below (e.low.items ++ e.upper.items) ≡ true) }
-        ensures numbers { IfOk result (λ e. numbers_in e.count e.below (e.low.items ++ e.upper.items) ≡ list.now) }
+        ensures valid { IfOk result
+            (λ e. is_sums_list e.count e.below (e.low.items ++ e.upper.items) ≡ true) }
+        ensures numbers { IfOk result
+            (λ e. numbers_in e.count e.below (e.low.items ++ e.upper.items) ≡ list.now) }
     {
         encode(alloc, list)
     }
@@ -68,9 +71,11 @@ impl<B: WordBank + Copy> EliasFano<B> {
         requires some { 0 < count }
         requires few { count < 2 ^ 32 }
         requires above { 0 < below }
-        requires within { first + low_size count below + upper_size count below ≤ length (B.words_of bank) }
+        requires within { first + low_size count below + upper_size count below
+            ≤ length (B.words_of bank) }
         requires valid { is_sums_list count below (drop first (B.words_of bank)) ≡ true }
-        ensures items { IfOk result (λ e. ⟦<EliasFano<B> as Fields>⟧.items e ≡ numbers_in count below (drop first (B.words_of bank))) }
+        ensures items { IfOk result (λ e. ⟦<EliasFano<B> as Fields>⟧.items e
+            ≡ numbers_in count below (drop first (B.words_of bank))) }
         ensures len { IfOk result (λ e. length (⟦<EliasFano<B> as Fields>⟧.items e) ≡ count) }
     {
         let _words = bank.words();
@@ -102,7 +107,8 @@ impl<B: WordBank + Copy> EliasFano<B> {
     pub fn pair<L: Ledger>(&self, i: usize, steps: &mut Steps<L>) -> (u64, u64)
         requires { i + 1 < length (⟦<EliasFano<B> as Fields>⟧.items self.now) }
         ensures first { result.0 ≡ slice_index (⟦<EliasFano<B> as Fields>⟧.items self.now) i }
-        ensures second { result.1 ≡ slice_index (⟦<EliasFano<B> as Fields>⟧.items self.now) (i + 1) }
+        ensures second { result.1
+            ≡ slice_index (⟦<EliasFano<B> as Fields>⟧.items self.now) (i + 1) }
         ensures counted { steps.old < steps.new }
         ensures cost { steps.new ≤ steps.old + 76 }
     {

@@ -37,7 +37,8 @@ impl<B: WordBank + Copy> Packed<B> {
         requires narrow { width ≤ 64 }
         requires short { len ≤ 2 ^ 32 }
         requires within { first + words_for (len * width) ≤ length (B.words_of bank) }
-        ensures items { ⟦<Packed<B> as Fields>⟧.items result ≡ fields width len (drop first (B.words_of bank)) }
+        ensures items { ⟦<Packed<B> as Fields>⟧.items result
+            ≡ fields width len (drop first (B.words_of bank)) }
         ensures len { length (⟦<Packed<B> as Fields>⟧.items result) ≡ len }
         ensures width { ⟦<Packed<B> as Fields>⟧.bits result ≡ width }
         ensures cost { ⟦<Packed<B> as Fields>⟧.ticks result ≡ 2 }

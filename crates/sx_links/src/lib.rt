@@ -62,7 +62,8 @@ impl Links {
     /// Want of memory.
     pub fn new(alloc: Global, items: u32, lists: u32, hooks: u32) -> Result<Links, AllocError>
         requires { items * hooks < 2 ^ 32 }
-        ensures { IfOk result (λ l. l ≡ record { items = items; hooks = hooks; lists = replicate lists [] }) }
+        ensures { IfOk result
+            (λ l. l ≡ record { items = items; hooks = hooks; lists = replicate lists [] }) }
     {
         let seats = items as usize * hooks as usize;
         Ok(Links {

@@ -13,7 +13,8 @@ use std::alloc::{AllocError, Global};
 pub(crate) fn degrees_of(alloc: Global, bound: u32, edges: &[Edge]) -> Result<Vec<u32>, AllocError>
     requires within { All (IsEdgeWithin bound) edges.now }
     requires few { 3 * length edges.now < 2 ^ 32 }
-    ensures { IfOk result (λ d. (length d.items ≡ bound) × ((v : ℕ) → v < bound → slice_index d.items v ≡ degree v edges.now)) }
+    ensures { IfOk result (λ d. (length d.items ≡ bound)
+        × ((v : ℕ) → v < bound → slice_index d.items v ≡ degree v edges.now)) }
 {
     let mut degrees = vec![in alloc; 0u32; bound as usize]?;
     count_edges(&mut degrees, edges);

@@ -29,7 +29,8 @@ impl Peeling {
         requires within { All (IsEdgeWithin bound) edges.now }
         requires few { 3 * length edges.now < 2 ^ 32 }
         ensures bound { IfOk result (λ p. length p.degrees.items ≡ bound) }
-        ensures between { IfOk result (λ p. IsBetween edges.now p.degrees.items p.order.items p.left.items) }
+        ensures between { IfOk result
+            (λ p. IsBetween edges.now p.degrees.items p.order.items p.left.items) }
     {
         let degrees = degrees_of(alloc, bound, edges)?;
         let order = Vec::with_capacity(alloc, edges.len())?;
@@ -52,11 +53,15 @@ impl Peeling {
     /// A round over the edges that are left. False where it takes none.
     pub(crate) fn round(&mut self, edges: &[Edge]) -> Result<bool, AllocError>
         requires within { All (IsEdgeWithin (length self.old.degrees.items)) edges.now }
-        requires between { IsBetween edges.now self.old.degrees.items self.old.order.items self.old.left.items }
+        requires between { IsBetween edges.now self.old.degrees.items self.old.order.items
+            self.old.left.items }
         requires unfinished { 0 < vec_len self.old.left }
         ensures size { length self.new.degrees.items ≡ length self.old.degrees.items }
-        ensures between { OnOk result (IsBetween edges.now self.new.degrees.items self.new.order.items self.new.left.items) }
-        ensures taken { IfOk result (λ taken. MatchBool taken (vec_len self.new.left < vec_len self.old.left) (IsCore edges.now self.new.left.items)) }
+        ensures between { OnOk result (IsBetween edges.now self.new.degrees.items
+            self.new.order.items self.new.left.items) }
+        ensures taken { IfOk result (λ taken. MatchBool taken
+            (vec_len self.new.left < vec_len self.old.left)
+            (IsCore edges.now self.new.left.items)) }
     {
         let count = self.left.len();
         self.kept = 0;
@@ -71,10 +76,12 @@ impl Peeling {
     fn visit(&mut self, edges: &[Edge], at: usize) -> Result<(), AllocError>
         requires within { All (IsEdgeWithin (length self.old.degrees.items)) edges.now }
         requires at { at < vec_len self.old.left }
-        requires round { IsWithinRound edges.now self.old.degrees.items self.old.order.items self.old.left.items self.old.kept at }
+        requires round { IsWithinRound edges.now self.old.degrees.items self.old.order.items
+            self.old.left.items self.old.kept at }
         ensures degrees { length self.new.degrees.items ≡ length self.old.degrees.items }
         ensures left { vec_len self.new.left ≡ vec_len self.old.left }
-        ensures round { OnOk result (IsWithinRound edges.now self.new.degrees.items self.new.order.items self.new.left.items self.new.kept (at + 1)) }
+        ensures round { OnOk result (IsWithinRound edges.now self.new.degrees.items
+            self.new.order.items self.new.left.items self.new.kept (at + 1)) }
     {
         let number = self.left[at];
         let edge = edges[number as usize];
@@ -91,7 +98,8 @@ impl Peeling {
     /// Takes the edge away.
     fn take(&mut self, edge: Edge, taken: Taken) -> Result<(), AllocError>
         requires within { IsEdgeWithin (length self.old.degrees.items) edge }
-        requires some { AllByRecursion (λ v. 0 < slice_index self.old.degrees.items v) (vertices edge) }
+        requires some { AllByRecursion
+            (λ v. 0 < slice_index self.old.degrees.items v) (vertices edge) }
         ensures size { length self.new.degrees.items ≡ length self.old.degrees.items }
         ensures degrees { (v : ℕ) → v < length self.old.degrees.items
             → slice_index self.new.degrees.items v + cond (has_vertex v edge) 1 0 ≡ slice_index self.old.degrees.items v }

@@ -23,7 +23,8 @@ pub(crate) fn ones_between<B: WordBank, L: Ledger>(
     requires within { first + to ≤ length (B.words_of bank.now) }
     requires small { All (λ w. w < 2 ^ 64) (B.words_of bank.now) }
     requires long { length (B.words_of bank.now) < 2 ^ 64 }
-    ensures ones { let x = number_at first (B.words_of bank.now) in rank_of (64 * to) x ≡ rank_of (64 * from) x + result }
+    ensures ones { let x = number_at first (B.words_of bank.now) in
+        rank_of (64 * to) x ≡ rank_of (64 * from) x + result }
     ensures few { result ≤ 64 * (to - from) }
     ensures cost { steps.new ≡ steps.old + (to - from) }
 {

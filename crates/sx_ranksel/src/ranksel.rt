@@ -103,7 +103,8 @@ impl<B: WordBank + Copy> RankSel<B> {
 
     /// How many ones there are.
     pub fn ones(&self) -> u64
-        ensures { result ≡ rank_of self.now.bits (number_at self.now.first (B.words_of self.now.bank)) }
+        ensures { result
+            ≡ rank_of self.now.bits (number_at self.now.first (B.words_of self.now.bank)) }
     {
         self.ones
     }
@@ -122,7 +123,9 @@ impl<B: WordBank + Copy> RankSel<B> {
     /// The place of one number `k`, counted from 0, in at most 36 ticks.
     pub fn select<L: Ledger>(&self, k: u64, steps: &mut Steps<L>) -> u64
         requires { k < rank_of self.now.bits (number_at self.now.first (B.words_of self.now.bank)) }
-        ensures place { result ≡ slice_index (ones_of self.now.bits (number_at self.now.first (B.words_of self.now.bank))) k }
+        ensures place { result
+            ≡ slice_index (ones_of self.now.bits (number_at self.now.first (B.words_of self.now.bank)))
+            k }
         ensures counted { steps.old < steps.new }
         ensures cost { steps.new ≤ steps.old + 36 }
     {

@@ -23,7 +23,8 @@ pub(crate) fn block_at<D: WordBank, L: Ledger>(directory: &D, k: u64, steps: &mu
     ensures within { result.number < length (D.words_of directory.now) }
     ensures ones { result.ones ≡ slice_index (D.words_of directory.now) result.number }
     ensures below { result.ones ≤ k }
-    ensures above { result.number + 1 < length (D.words_of directory.now) → k < slice_index (D.words_of directory.now) (result.number + 1) }
+    ensures above { result.number + 1 < length (D.words_of directory.now)
+        → k < slice_index (D.words_of directory.now) (result.number + 1) }
     ensures counted { steps.old ≤ steps.new }
     ensures cost { steps.new ≤ steps.old + 26 }
 {

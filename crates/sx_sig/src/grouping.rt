@@ -65,7 +65,8 @@ fn chunk_index(sig: &Signature, c: u32) -> usize
 fn chunks_of(alloc: Global, sigs: &[Signature], c: u32) -> Result<Vec<Vec<u32>>, AllocError>
     requires few { length sigs.now < 2 ^ 32 }
     requires bits { c ≤ 32 }
-    ensures lists { IfOk result (λ v. map (λ u. u.items) v.items ≡ map (chunk_numbers c sigs.now) (range_with_len 0 (2 ^ c))) }
+    ensures lists { IfOk result (λ v. map (λ u. u.items) v.items
+        ≡ map (chunk_numbers c sigs.now) (range_with_len 0 (2 ^ c))) }
     ensures within { OnOk result (All (λ sig. chunk_of_signature sig c < 2 ^ c) sigs.now) }
 {
     let mut chunks = empty_lists(alloc, 1 << c, sigs.len() >> c)?;
@@ -91,7 +92,9 @@ fn empty_lists(alloc: Global, count: usize, average: usize) -> Result<Vec<Vec<u3
 #[inline(always)]
 fn put(lists: &mut Vec<Vec<u32>>, place: usize, number: u32) -> Result<(), AllocError>
     requires { place < length lists.old.items }
-    ensures { OnOk result (map (λ u. u.items) lists.new.items ≡ slice_set (map (λ u. u.items) lists.old.items) place (slice_index_or (map (λ u. u.items) lists.old.items) place [] ++ number ∷ [])) }
+    ensures { OnOk result (map (λ u. u.items) lists.new.items
+        ≡ slice_set (map (λ u. u.items) lists.old.items) place
+        (slice_index_or (map (λ u. u.items) lists.old.items) place [] ++ number ∷ [])) }
 {
     lists[place].push(number)?;
     Ok(())
@@ -102,7 +105,8 @@ fn least_pair(alloc: Global, sigs: &[Signature], lists: &[Vec<u32>]) -> Result<P
     requires few { length sigs.now < 2 ^ 32 }
     requires inside { All (λ v. All (λ n. n < length sigs.now) v.items) lists.now }
     ensures found { IfOk result (λ r. IsFound sigs.now r.first r.second) }
-    ensures least { IfOk result (λ r. IsLeastFound sigs.now (map (λ v. v.items) lists.now) r.second) }
+    ensures least { IfOk result
+        (λ r. IsLeastFound sigs.now (map (λ v. v.items) lists.now) r.second) }
 {
     let mut found = Pair {
         first: 0,
@@ -134,7 +138,8 @@ fn fill(ordered: &mut Vec<Numbered>, sigs: &[Signature], numbers: &[u32]) -> Res
 fn least_neighbours(ordered: &[Numbered], mut found: Pair) -> Pair
     ensures either { (result ≡ found) ⊎ IsNeighbour ordered.now result.first result.second }
     ensures before { result.second ≤ found.second }
-    ensures least { (first second : ℕ) → IsNeighbour ordered.now first second → result.second ≤ second }
+    ensures least { (first second : ℕ) → IsNeighbour ordered.now first second
+        → result.second ≤ second }
 {
     for place in 1..ordered.len() {
         found = nearer(ordered[place - 1], ordered[place], found);

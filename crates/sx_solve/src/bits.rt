@@ -35,7 +35,8 @@ pub(crate) fn set_bit(words: &mut Vec<u64>, i: usize)
 pub(crate) fn add_bits(words: &mut Vec<u64>, others: &[u64])
     requires { length words.old.items ≡ length others.now }
     ensures words { length words.new.items ≡ length words.old.items }
-    ensures bits { (i : ℕ) → bit words.new.items i ≡ (bit words.old.items i + bit others.now i) % 2 }
+    ensures bits { (i : ℕ) → bit words.new.items i
+        ≡ (bit words.old.items i + bit others.now i) % 2 }
 {
     for k in 0..words.len() {
         words[k] ^= others[k];

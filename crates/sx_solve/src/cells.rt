@@ -14,7 +14,8 @@ pub(crate) fn cells_of(alloc: Global, count: usize, rows: &[Row]) -> Result<Vec<
     requires words { All (λ r. count / 64 < length r.unknowns.items) rows.now }
     ensures count { IfOk result (λ v. length v.items ≡ count) }
     ensures met { IfOk result (λ v. All (Meets v.items) rows.now) }
-    ensures narrow { IfOk result (λ v. (k : ℕ) → All (λ r. r.value < 2 ^ k) rows.now → All (λ x. x < 2 ^ k) v.items) }
+    ensures narrow { IfOk result
+        (λ v. (k : ℕ) → All (λ r. r.value < 2 ^ k) rows.now → All (λ x. x < 2 ^ k) v.items) }
 {
     let mut cells = zeros(alloc, count)?;
     fill(&mut cells, rows);
@@ -34,7 +35,8 @@ fn fill(cells: &mut [u64], rows: &[Row])
     requires pivots { All (λ r. r.pivot < length cells.old) rows.now }
     requires words { All (λ r. length cells.old / 64 < length r.unknowns.items) rows.now }
     ensures met { All (Meets cells.new) rows.now }
-    ensures narrow { (k : ℕ) → All (λ r. r.value < 2 ^ k) rows.now → All (λ x. x < 2 ^ k) cells.old → All (λ x. x < 2 ^ k) cells.new }
+    ensures narrow { (k : ℕ) → All (λ r. r.value < 2 ^ k) rows.now → All (λ x. x < 2 ^ k) cells.old
+        → All (λ x. x < 2 ^ k) cells.new }
 {
     for k in (0..rows.len()).rev() {
         let row = &rows[k];

@@ -61,7 +61,8 @@ fn take_in(
     requires within { All (IsEquationWithin vars) eqs.now }
     requires number { number < length eqs.now }
     requires rows { AreRows vars eqs.now number rows.old.items }
-    ensures { IfOk result (λ r. MatchOption r (AreRows vars eqs.now (number + 1) rows.new.items) (IsContradictory eqs.now)) }
+    ensures { IfOk result (λ r. MatchOption r (AreRows vars eqs.now (number + 1) rows.new.items)
+        (IsContradictory eqs.now)) }
 {
     let mut row = reduced(alloc, rows, vars, eqs, number)?;
     match first_bit(&row.unknowns) {
@@ -88,7 +89,8 @@ fn reduced(
     requires rows { AreRows vars eqs.now number rows.now }
     ensures words { IfOk result (λ r. HasWords (vars / 64 + 1) (length eqs.now / 64 + 1) r) }
     ensures sum { IfOk result (λ r. IsRow eqs.now r) }
-    ensures meets { IfOk result (λ r. (cells : List ℕ) → vars ≤ length cells → All (Meets cells) rows.now → Meets cells r
+    ensures meets { IfOk result
+        (λ r. (cells : List ℕ) → vars ≤ length cells → All (Meets cells) rows.now → Meets cells r
         → (q : Equation) → slice_get eqs.now number ≡ Some q → cells_at cells (unknowns q) ≡ q.value) }
     ensures cleared { IfOk result (λ r. All (λ s. bit r.unknowns.items s.pivot ≡ 0) rows.now) }
 {
@@ -109,8 +111,10 @@ fn reduced(
 fn unknowns_of(alloc: Global, vars: u32, q: Equation) -> Result<Vec<u64>, AllocError>
     requires { IsEquationWithin vars q }
     ensures words { IfOk result (λ v. length v.items ≡ vars / 64 + 1) }
-    ensures bits { IfOk result (λ v. (i : ℕ) → bit v.items i ≡ count_of i (vertices (unknowns q)) % 2) }
-    ensures xor { IfOk result (λ v. (cells : List ℕ) → vars ≤ length cells → xor_by (bit v.items) 0 cells ≡ cells_at cells (unknowns q)) }
+    ensures bits { IfOk result
+        (λ v. (i : ℕ) → bit v.items i ≡ count_of i (vertices (unknowns q)) % 2) }
+    ensures xor { IfOk result (λ v. (cells : List ℕ) → vars ≤ length cells
+        → xor_by (bit v.items) 0 cells ≡ cells_at cells (unknowns q)) }
 {
     let mut bits = no_bits(alloc, vars as usize)?;
     set_bit(&mut bits, q.a as usize);
@@ -134,7 +138,8 @@ fn set_of(alloc: Global, count: usize, number: usize) -> Result<Vec<u64>, AllocE
 /// The numbers below the count whose bits are set, rising.
 fn numbers_of(alloc: Global, set: &[u64], count: u32) -> Result<Vec<u32>, AllocError>
     requires { count / 64 < length set.now }
-    ensures { IfOk result (λ v. v.items ≡ filter (λ i. bit set.now i == 1) (range_with_len 0 count)) }
+    ensures { IfOk result
+        (λ v. v.items ≡ filter (λ i. bit set.now i == 1) (range_with_len 0 count)) }
 {
     let mut numbers = Vec::new(alloc);
     for number in 0..count {
@@ -156,11 +161,15 @@ fn push_where(numbers: &mut Vec<u32>, number: u32, wanted: bool) -> Result<(), A
 impl Row {
     /// Clears the pivots of the rows.
     fn reduce(&mut self, rows: &[Row])
-        requires words { All (HasWords (length self.old.unknowns.items) (length self.old.set.items)) rows.now }
+        requires words { All (HasWords (length self.old.unknowns.items) (length self.old.set.items))
+            rows.now }
         requires steps { AreSteps rows.now }
-        ensures words { HasWords (length self.old.unknowns.items) (length self.old.set.items) self.new }
-        ensures sum { (equations : List Equation) → All (IsRow equations) rows.now → IsRow equations self.old → IsRow equations self.new }
-        ensures meets { (cells : List ℕ) → All (Meets cells) rows.now → Meets cells self.new → Meets cells self.old }
+        ensures words { HasWords (length self.old.unknowns.items) (length self.old.set.items)
+            self.new }
+        ensures sum { (equations : List Equation) → All (IsRow equations) rows.now
+            → IsRow equations self.old → IsRow equations self.new }
+        ensures meets { (cells : List ℕ) → All (Meets cells) rows.now → Meets cells self.new
+            → Meets cells self.old }
         ensures cleared { All (λ r. bit self.new.unknowns.items r.pivot ≡ 0) rows.now }
     {
         for row in rows {
@@ -170,13 +179,18 @@ impl Row {
 
     /// Clears the pivot of a row, by adding that row.
     fn clear(&mut self, row: &Row)
-        requires words { HasWords (length self.old.unknowns.items) (length self.old.set.items) row.now }
+        requires words { HasWords (length self.old.unknowns.items) (length self.old.set.items)
+            row.now }
         requires own { bit row.now.unknowns.items row.now.pivot ≡ 1 }
-        ensures words { HasWords (length self.old.unknowns.items) (length self.old.set.items) self.new }
-        ensures sum { (equations : List Equation) → IsRow equations row.now → IsRow equations self.old → IsRow equations self.new }
-        ensures meets { (cells : List ℕ) → Meets cells row.now → Meets cells self.new → Meets cells self.old }
+        ensures words { HasWords (length self.old.unknowns.items) (length self.old.set.items)
+            self.new }
+        ensures sum { (equations : List Equation) → IsRow equations row.now
+            → IsRow equations self.old → IsRow equations self.new }
+        ensures meets { (cells : List ℕ) → Meets cells row.now → Meets cells self.new
+            → Meets cells self.old }
         ensures cleared { bit self.new.unknowns.items row.now.pivot ≡ 0 }
-        ensures others { (v : ℕ) → bit row.now.unknowns.items v ≡ 0 → bit self.new.unknowns.items v ≡ bit self.old.unknowns.items v }
+        ensures others { (v : ℕ) → bit row.now.unknowns.items v ≡ 0
+            → bit self.new.unknowns.items v ≡ bit self.old.unknowns.items v }
     {
         if !test_bit(&self.unknowns, row.pivot) {
             return;

@@ -20,8 +20,10 @@ pub(crate) fn cells_of(
     requires values { length values.now ≡ length edges.now }
     requires order { IsTakenOrder edges.now order.now }
     ensures count { IfOk result (λ v. length v.items ≡ count) }
-    ensures narrow { IfOk result (λ v. (k : ℕ) → All (λ w. w < 2 ^ k) values.now → All (λ w. w < 2 ^ k) v.items) }
-    ensures met { IfOk result (λ v. (i : ℕ) → i < length edges.now → IsMet edges.now values.now v.items i) }
+    ensures narrow { IfOk result
+        (λ v. (k : ℕ) → All (λ w. w < 2 ^ k) values.now → All (λ w. w < 2 ^ k) v.items) }
+    ensures met { IfOk result
+        (λ v. (i : ℕ) → i < length edges.now → IsMet edges.now values.now v.items i) }
 {
     let mut cells = zeros(alloc, count as usize)?;
     fill(&mut cells, edges, values, order);
@@ -41,7 +43,8 @@ fn fill(cells: &mut [u64], edges: &[Edge], values: &[u64], order: &[Taken])
     requires values { length values.now ≡ length edges.now }
     requires order { AreFree edges.now order.now }
     ensures met { AreMet edges.now values.now cells.new order.now }
-    ensures narrow { (k : ℕ) → All (λ w. w < 2 ^ k) values.now → All (λ w. w < 2 ^ k) cells.old → All (λ w. w < 2 ^ k) cells.new }
+    ensures narrow { (k : ℕ) → All (λ w. w < 2 ^ k) values.now → All (λ w. w < 2 ^ k) cells.old
+        → All (λ w. w < 2 ^ k) cells.new }
 {
     for place in (0..order.len()).rev() {
         let taken = order[place];
@@ -54,8 +57,10 @@ fn fill(cells: &mut [u64], edges: &[Edge], values: &[u64], order: &[Taken])
 fn settle(cells: &mut [u64], edge: Edge, slot: u8, value: u64)
     requires within { IsEdgeWithin (length cells.old) edge }
     ensures met { cells_at cells.new edge ≡ value }
-    ensures narrow { (k : ℕ) → value < 2 ^ k → All (λ w. w < 2 ^ k) cells.old → All (λ w. w < 2 ^ k) cells.new }
-    ensures others { (v : ℕ) → v ≢ vertex_in edge slot → slice_index cells.new v ≡ slice_index cells.old v }
+    ensures narrow { (k : ℕ) → value < 2 ^ k → All (λ w. w < 2 ^ k) cells.old
+        → All (λ w. w < 2 ^ k) cells.new }
+    ensures others { (v : ℕ) → v ≢ vertex_in edge slot
+        → slice_index cells.new v ≡ slice_index cells.old v }
 {
     let (a, b, c) = (edge.a as usize, edge.b as usize, edge.c as usize);
     match slot {

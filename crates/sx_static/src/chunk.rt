@@ -31,7 +31,8 @@ pub(crate) fn build_chunk(
     requires values { length values.now ≡ length sigs.now }
     requires within { All (λ i. i < length sigs.now) numbers.now }
     requires few { length numbers.now ≤ 2 ^ 27 }
-    ensures { IfOk result (λ r. IsTried method (segment_of method (length numbers.now)) (chosen sigs.now numbers.now) (chosen values.now numbers.now) numbers.now r) }
+    ensures { IfOk result (λ r. IsTried method (segment_of method (length numbers.now))
+        (chosen sigs.now numbers.now) (chosen values.now numbers.now) numbers.now r) }
 {
     let own_sigs = signatures_at(alloc, sigs, numbers)?;
     let own_values = values_at(alloc, values, numbers)?;
@@ -49,7 +50,8 @@ fn make_tries(
     requires values { length values.now ≡ length sigs.now }
     requires numbers { length numbers.now ≡ length sigs.now }
     requires few { length sigs.now ≤ 2 ^ 27 }
-    ensures { IfOk result (λ r. IsTried method (segment_of method (length sigs.now)) sigs.now values.now numbers.now r) }
+    ensures { IfOk result (λ r. IsTried method (segment_of method (length sigs.now)) sigs.now
+        values.now numbers.now r) }
 {
     let s = segment(method, sigs.len() as u32);
     let mut witnesses = Vec::new(alloc);
@@ -65,8 +67,10 @@ fn make_tries(
 /// The witness by the numbers of pairs, which stand at its places.
 fn of_pairs(alloc: Global, witness: &Witness, numbers: &[u32]) -> Result<Witness, AllocError>
     requires within { All (λ k. k < length numbers.now) (witness_numbers witness.now) }
-    ensures numbers { IfOk result (λ w. witness_numbers w ≡ map (slice_index numbers.now) (witness_numbers witness.now)) }
-    ensures kind { IfOk result (λ w. (method : Method) → IsWitnessOf method witness.now → IsWitnessOf method w) }
+    ensures numbers { IfOk result
+        (λ w. witness_numbers w ≡ map (slice_index numbers.now) (witness_numbers witness.now)) }
+    ensures kind { IfOk result
+        (λ w. (method : Method) → IsWitnessOf method witness.now → IsWitnessOf method w) }
 {
     match witness {
         Witness::Core(places) => Ok(Witness::Core(numbers_at(alloc, numbers, places)?)),

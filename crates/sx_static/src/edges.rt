@@ -57,7 +57,8 @@ pub(crate) fn equations_of(
     requires some { 0 < length sigs.now → 1 ≤ s }
     requires short { s ≤ 1431655765 }
     requires few { t ≤ 63 }
-    ensures equations { IfOk result (λ v. v.items ≡ map (entry_equation t s) (entries_of sigs.now values.now)) }
+    ensures equations { IfOk result
+        (λ v. v.items ≡ map (entry_equation t s) (entries_of sigs.now values.now)) }
     ensures within { IfOk result (λ v. All (IsEquationWithin (3 * s)) v.items) }
 {
     let mut equations = Vec::with_capacity(alloc, sigs.len())?;

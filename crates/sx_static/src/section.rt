@@ -151,7 +151,8 @@ pub fn function_check(
         section_of (function_of least most low_width high_width) (drop at words.now)
         ≡ function_section (viewed words.now s.body s.width s.count)) }
     ensures stands { IfOk result (λ s. IsViewed words.now s.body s.width s.count) }
-    ensures size { IfOk result (λ s. s.after ≡ at + section_size (function_of least most low_width high_width) (drop at words.now)) }
+    ensures size { IfOk result (λ s. s.after
+        ≡ at + section_size (function_of least most low_width high_width) (drop at words.now)) }
     ensures after { IfOk result (λ s. s.after ≤ length words.now) }
     ensures narrow { IfOk result (λ s. s.width ≤ 64) }
     ensures few { IfOk result (λ s. s.count < 2 ^ 32) }

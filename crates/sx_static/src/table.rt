@@ -29,7 +29,9 @@ pub(crate) fn build_chunks(
     requires fit { All (λ v. v < 2 ^ width) values.now }
     requires width { width ≤ 64 }
     requires differ { AllDiffer sigs.now }
-    requires lists { map (λ v. v.items) chunks.now ≡ map (chunk_numbers (chunk_bits (length sigs.now)) sigs.now) (range_with_len 0 (2 ^ chunk_bits (length sigs.now))) }
+    requires lists { map (λ v. v.items) chunks.now
+        ≡ map (chunk_numbers (chunk_bits (length sigs.now)) sigs.now)
+        (range_with_len 0 (2 ^ chunk_bits (length sigs.now))) }
     ensures { IfOk result (λ b. IsAnswer method 64 width (entries_of sigs.now values.now) b) }
 {
     let total = all_cells(method, chunks);
@@ -81,8 +83,10 @@ fn put_cells(cells: &mut PackedBuf, start: usize, found: &[u64])
     requires fit { All (λ v. v < 2 ^ cells.old.width) found.now }
     ensures width { cells.new.width ≡ cells.old.width }
     ensures count { length cells.new.items ≡ length cells.old.items }
-    ensures items { take (start + length found.now) cells.new.items ≡ take start cells.old.items ++ found.now }
-    ensures fit { All (λ v. v < 2 ^ cells.old.width) cells.old.items → All (λ v. v < 2 ^ cells.old.width) cells.new.items }
+    ensures items { take (start + length found.now) cells.new.items
+        ≡ take start cells.old.items ++ found.now }
+    ensures fit { All (λ v. v < 2 ^ cells.old.width) cells.old.items
+        → All (λ v. v < 2 ^ cells.old.width) cells.new.items }
 {
     for (place, cell) in found.iter().enumerate() {
         cells.set(start + place, *cell);

@@ -70,7 +70,8 @@ impl<B: WordBank + Copy> FuncView<B> {
     /// was built from its value, for any other whatever the cells give.
     #[inline(always)]
     pub fn answer<L: Ledger>(&self, sig: &Signature, steps: &mut Steps<L>) -> u64
-        ensures value { result ≡ value_of (viewed (B.words_of self.now.bank) self.now.first self.now.width self.now.pairs) sig.now }
+        ensures value { result ≡ value_of (viewed (B.words_of self.now.bank) self.now.first
+            self.now.width self.now.pairs) sig.now }
         ensures counted { steps.old ≤ steps.new }
         ensures cost { steps.new ≤ steps.old + 8 }
     {

@@ -36,11 +36,14 @@ fn split(keys: &KeyList, delimiters: &[u32], first: u32, after: u32, extent: u32
     requires rising { AreRising keys.now.lines delimiters.now }
     requires ordered { first ≤ after }
     requires inside { after ≤ length delimiters.now }
-    requires splits { IsSplittable (delimiter_bits keys.now.lines delimiters.now) first after extent }
+    requires splits { IsSplittable (delimiter_bits keys.now.lines delimiters.now) first after
+        extent }
     ensures low { first ≤ result }
     ensures high { result ≤ after }
-    ensures zeros { (j : ℕ) → first ≤ j → j < result → bit_at (string_at keys.now.lines delimiters.now j) extent ≡ false }
-    ensures ones { (j : ℕ) → result ≤ j → j < after → bit_at (string_at keys.now.lines delimiters.now j) extent ≡ true }
+    ensures zeros { (j : ℕ) → first ≤ j → j < result
+        → bit_at (string_at keys.now.lines delimiters.now j) extent ≡ false }
+    ensures ones { (j : ℕ) → result ≤ j → j < after
+        → bit_at (string_at keys.now.lines delimiters.now j) extent ≡ true }
 {
     let mut low = first;
     let mut high = after;
@@ -68,8 +71,10 @@ fn node_over(keys: &KeyList, delimiters: &[u32], first: u32, after: u32) -> Node
     ensures after { result.after ≡ after }
     ensures low { first ≤ result.middle }
     ensures high { result.middle ≤ after }
-    ensures zeros { (j : ℕ) → first ≤ j → j < result.middle → bit_at (string_at keys.now.lines delimiters.now j) result.extent ≡ false }
-    ensures ones { (j : ℕ) → result.middle ≤ j → j < after → bit_at (string_at keys.now.lines delimiters.now j) result.extent ≡ true }
+    ensures zeros { (j : ℕ) → first ≤ j → j < result.middle
+        → bit_at (string_at keys.now.lines delimiters.now j) result.extent ≡ false }
+    ensures ones { (j : ℕ) → result.middle ≤ j → j < after
+        → bit_at (string_at keys.now.lines delimiters.now j) result.extent ≡ true }
 {
     let last = view_of(keys, delimiters, after - 1);
     let extent = view_of(keys, delimiters, first).lcp(&last);
@@ -106,7 +111,8 @@ fn count_of(keys: &KeyList, delimiters: &[u32]) -> u32
 /// The nodes over all leaves in preorder, with their names.
 fn entries_over(alloc: Global, keys: &KeyList, delimiters: &[u32]) -> Result<Vec<Entry>, AllocError>
     requires { AreRising keys.now.lines delimiters.now }
-    ensures { IfOk result (λ entries. AreEntriesOf (delimiter_bits keys.now.lines delimiters.now) entries.items) }
+    ensures { IfOk result
+        (λ entries. AreEntriesOf (delimiter_bits keys.now.lines delimiters.now) entries.items) }
 {
     let after = count_of(keys, delimiters);
     let mut entries = Vec::new(alloc);

@@ -68,7 +68,8 @@ impl Trie {
     pub fn handle_len(&self, i: u32) -> u32
         requires some { 1 ≤ i }
         requires inside { i < length self.now.nodes }
-        ensures { result ≡ fattest_of (slice_index self.now.names i - 1) (node_at self.now.nodes i).extent }
+        ensures { result
+            ≡ fattest_of (slice_index self.now.names i - 1) (node_at self.now.nodes i).extent }
     {
         fattest(self.parent_extent(i), self.node(i).extent)
     }
@@ -79,7 +80,8 @@ impl Trie {
         requires built { IsTrieOf keys.now.lines self.now }
         requires some { 0 < length self.now.delimiters }
         ensures place { IsPlaceOf self.now result.place }
-        ensures value { exit_of result ≡ exit_in (delimiter_bits keys.now.lines self.now.delimiters) (bits_of view.now) }
+        ensures value { exit_of result
+            ≡ exit_in (delimiter_bits keys.now.lines self.now.delimiters) (bits_of view.now) }
         ensures below { block_at_exit self.now.nodes (exit_of result)
             ≡ block_of (delimiter_bits keys.now.lines self.now.delimiters) (bits_of view.now) }
     {
