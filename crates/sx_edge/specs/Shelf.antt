@@ -1,6 +1,5 @@
 -- Files by name, of which at most one is in use.
-use Rattle.std.specs.Prelude.{◌≡◌, ⊤, ℕ, ◌+◌, List, ◌++◌, Option, Some, None, IsSome, IfSome, Bool, true, false, Result, Err, take, length}
-use Rattle.std.specs.Io.KnownBytes.{Consumes, IsAtEnd}
+use Rattle.std.specs.Prelude.{◌≡◌, ⊤, ℕ, List, ◌++◌, Option, Some, None, IsSome, IfSome}
 use Rattle.sx_spec.specs.Command.{Text}
 use Rattle.sx_spec.specs.World.{Files, SetsFile}
 use Rattle.sx_spec_strings.specs.Bits.{IsPrefix}

@@ -241,10 +241,7 @@ impl LineReader {
         ensures keeps { P.keeps from.old from.new }
     {
         'reads: while !self.has_line() {
-            match self.fill::<P, T>(from) {
-                Ok(()) => {}
-                Err(Failed) => return Err(Failed),
-            }
+            self.fill::<P, T>(from)?;
         }
         Ok(())
     }

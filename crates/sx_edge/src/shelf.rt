@@ -96,10 +96,8 @@ pub fn write_file<F: Shelf>(files: &mut F, bytes: &[u8]) -> Result<(), Failed>
 {
     let mut rest = bytes;
     while !rest.is_empty() {
-        match files.write(rest) {
-            Ok(count) => rest = &rest[count..],
-            Err(Failed) => return Err(Failed),
-        }
+        let count = files.write(rest)?;
+        rest = &rest[count..];
     }
     Ok(())
 }
@@ -118,11 +116,11 @@ pub fn fill_buffer<F: Shelf>(files: &mut F, buf: &mut [u8]) -> Result<usize, Fai
 {
     let mut len = 0;
     'reads: while len < buf.len() {
-        match read_behind::<FromFile, F>(files, buf, len) {
-            Ok(0) => return Ok(len),
-            Ok(count) => len += count,
-            Err(Failed) => return Err(Failed),
+        let count = read_behind::<FromFile, F>(files, buf, len)?;
+        if count == 0 {
+            return Ok(len);
         }
+        len += count;
     }
     Ok(len)
 }

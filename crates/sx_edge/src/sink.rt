@@ -34,10 +34,8 @@ pub fn write_all<K: Sink>(sink: &mut K, bytes: &[u8]) -> Result<(), Failed>
 {
     let mut rest = bytes;
     while !rest.is_empty() {
-        match sink.write(rest) {
-            Ok(count) => rest = &rest[count..],
-            Err(Failed) => return Err(Failed),
-        }
+        let count = sink.write(rest)?;
+        rest = &rest[count..];
     }
     Ok(())
 }

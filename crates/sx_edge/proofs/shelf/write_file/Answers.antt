@@ -4,8 +4,8 @@ use Rattle.sx_edge.proofs.shelf.write_file.Goals as goal
 
 pub loop-rest-preserved : goal.loop-rest-preserved
 loop-rest-preserved g c = record {
-  wrote = wrote_file_more _ c.in-Ok.count c.loop-rest.invariant.wrote (rw c.loop-rest.invariant.same at c.in-Ok.ensures.bytes);
-  stays = c.in-Ok.ensures.stays;
-  same = c.in-Ok.ensures.same ∙ c.loop-rest.invariant.same;
-  calm = c.in-Ok.ensures.cause.calm ∙ c.loop-rest.invariant.calm;
+  wrote = wrote_file_more _ c.in_ok-count.count c.loop-rest.invariant.wrote (rw c.loop-rest.invariant.same at c.in_ok-count.ensures.bytes);
+  stays = c.in_ok-count.ensures.stays;
+  same = c.in_ok-count.ensures.same ∙ c.loop-rest.invariant.same;
+  calm = c.in_ok-count.ensures.cause.calm ∙ c.loop-rest.invariant.calm;
 }
