@@ -2,6 +2,7 @@
 #![tactic(auto)]
 
 ghost use Rattle.std.specs.Prelude.{◌≡◌, ◌<◌};
+ghost use Rattle.sx_steps.specs.Blanks.{IsBlankOf};
 
 #[cfg(test)]
 mod fakes;
@@ -24,9 +25,7 @@ use sx_steps::Steps;
 
 /// Runs the words over the files and streams of the system, and counts its reads.
 fn run_counted<L: Ledger>(host: HostRuntime, words: &WordList, blank: Blank) -> Status
-    requires name { blank.name ≡ L.name }
-    requires parts { blank.parts ≡ L.parts }
-    requires some { 0 < blank.parts }
+    requires blank { IsBlankOf L.Ledger blank }
 {
     let mut files = RealShelf::new(host);
     let mut input = InputStream::new(host.stdin());

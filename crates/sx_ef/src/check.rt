@@ -4,6 +4,7 @@ ghost use Rattle.std.specs.Int.{bit_at};
 ghost use Rattle.sx_spec.specs.Fields.{ones_of, words_number};
 ghost use Rattle.sx_ef.specs.Parts.{IsEncoded, is_sums_list, is_sums_of, low_size, upper_size};
 ghost use Rattle.sx_ef.specs.Sections.{is_sums_from_zero};
+ghost use Rattle.sx_steps.specs.Blanks.{IsBlankOf};
 
 use crate::encode::low_bits;
 use std::marker::Brand;
@@ -23,9 +24,7 @@ fn are_sums_counted<F: Fields, L: Ledger>(
     below: u64,
     blank: Blank,
 ) -> bool
-    requires name { blank.name ≡ L.name }
-    requires parts { blank.parts ≡ L.parts }
-    requires some { 0 < blank.parts }
+    requires blank { IsBlankOf L.Ledger blank }
     requires few { bits < 2 ^ 34 }
     requires within { bits ≤ 64 * length upper.now }
     requires narrow { F.bits low.now ≤ 63 }
@@ -68,9 +67,7 @@ fn are_sums<F: Fields>(upper: &[u64], bits: u64, low: &F, below: u64) -> bool
 
 /// What `starts_at_zero` tells, with a count.
 fn starts_counted<F: Fields, L: Ledger>(upper: &[u64], low: &F, blank: Blank) -> bool
-    requires name { blank.name ≡ L.name }
-    requires parts { blank.parts ≡ L.parts }
-    requires some { 0 < blank.parts }
+    requires blank { IsBlankOf L.Ledger blank }
     requires upper { 0 < length upper.now }
     requires low { 0 < length (F.items low.now) }
     ensures { result

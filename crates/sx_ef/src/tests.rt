@@ -1,5 +1,6 @@
 //! Worked rows of Elias-Fano lists.
 ghost use Rattle.std.specs.Prelude.{◌≡◌, ◌+◌, ◌<◌, length};
+ghost use Rattle.sx_steps.specs.Blanks.{IsBlankOf};
 
 use crate::check::ef_valid;
 use crate::section::sums_check;
@@ -17,9 +18,7 @@ fn read<B: WordBank + Copy, L: Ledger>(
     i: usize,
     blank: Blank,
 ) -> (Option<u64>, Option<(u64, u64)>)
-    requires name { blank.name ≡ L.name }
-    requires parts { blank.parts ≡ L.parts }
-    requires some { 0 < blank.parts }
+    requires blank { IsBlankOf L.Ledger blank }
 {
     let mut steps = Steps::<L>::new(blank);
     let len = list.len();

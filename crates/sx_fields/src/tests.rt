@@ -1,5 +1,6 @@
 //! Worked rows of fields and list sections.
 ghost use Rattle.std.specs.Prelude.{◌≡◌, ◌<◌, length, slice_index};
+ghost use Rattle.sx_steps.specs.Blanks.{IsBlankOf};
 
 use crate::bank::{WordBank, Words, WordsBuf};
 use crate::fields::{Fields, FieldsMut};
@@ -12,9 +13,7 @@ use std::test::Fail;
 use sx_steps::Steps;
 
 fn read<F: Fields, L: Ledger>(list: &F, i: usize, blank: Blank) -> u64
-    requires name { blank.name ≡ L.name }
-    requires parts { blank.parts ≡ L.parts }
-    requires some { 0 < blank.parts }
+    requires blank { IsBlankOf L.Ledger blank }
     requires within { i < length (F.items list.now) }
     ensures { result ≡ slice_index (F.items list.now) i }
 {
@@ -30,9 +29,7 @@ fn number<F: Fields>(list: &F, i: usize) -> u64
 }
 
 fn read_word<B: WordBank, L: Ledger>(bank: &B, i: usize, blank: Blank) -> u64
-    requires name { blank.name ≡ L.name }
-    requires parts { blank.parts ≡ L.parts }
-    requires some { 0 < blank.parts }
+    requires blank { IsBlankOf L.Ledger blank }
     requires within { i < length (B.words_of bank.now) }
 {
     let mut steps = Steps::<L>::new(blank);

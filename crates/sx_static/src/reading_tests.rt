@@ -1,6 +1,7 @@
 //! Function sections that were computed elsewhere, and what they answer.
 ghost use Rattle.std.specs.Prelude.{◌≡◌, ◌<◌};
 ghost use Rattle.sx_static.specs.Viewing.{IsViewed};
+ghost use Rattle.sx_steps.specs.Blanks.{IsBlankOf};
 
 use crate::{FuncView, Signature, function_check};
 use std::marker::Brand;
@@ -17,9 +18,7 @@ fn counted<L: Ledger>(
     sig: &Signature,
     blank: Blank,
 ) -> u64
-    requires name { blank.name ≡ L.name }
-    requires parts { blank.parts ≡ L.parts }
-    requires some { 0 < blank.parts }
+    requires blank { IsBlankOf L.Ledger blank }
     requires stands { IsViewed words.now first width pairs }
 {
     let mut steps = Steps::<L>::new(blank);

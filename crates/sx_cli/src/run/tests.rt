@@ -2,6 +2,7 @@
 ghost use Rattle.std.specs.Prelude.{◌≡◌, ◌<◌, IfOk};
 ghost use Rattle.sx_memory.specs.InUse.{use_of};
 ghost use Rattle.sx_edge.specs.Shelf.{idle};
+ghost use Rattle.sx_steps.specs.Blanks.{IsBlankOf};
 
 use super::*;
 use std::alloc::AllocError;
@@ -22,9 +23,7 @@ fn run_counted<L: Ledger, S: Source, O: Sink>(
     err: &mut MemSink,
     blank: Blank,
 ) -> Status
-    requires name { blank.name ≡ L.name }
-    requires parts { blank.parts ≡ L.parts }
-    requires some { 0 < blank.parts }
+    requires blank { IsBlankOf L.Ledger blank }
     requires idle { use_of files.old.used ≡ idle }
     ensures closed { use_of files.new.used ≡ idle }
 {
