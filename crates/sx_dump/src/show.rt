@@ -10,7 +10,7 @@ ghost use Rattle.sx_static.specs.Viewing.{viewed};
 ghost use Rattle.sx_edge.specs.Parts.{AppendsPrefix};
 ghost use Rattle.sx_dump.specs.Opening.{dump_in};
 ghost use Rattle.sx_dump.specs.Showing.{IsShown, cell_lines, chunk_lines, function_lines, section_lines, text_in};
-ghost use Rattle.sx_dump.specs.Viewing.{IsFunctionView};
+ghost use Rattle.sx_dump.specs.Viewing.{IsFuncView};
 
 use crate::dump::Dump;
 use crate::view::View;
@@ -250,8 +250,7 @@ impl<B: WordBank + Copy> Dump<B> {
         out: &mut O,
     ) -> Result<(), Failed>
         requires room { length page.old.bytes + 256 ≤ 4096 }
-        requires function { IsFunctionView self.now.header.plan
-            (B.words_of self.now.bank) values.now }
+        requires function { IsFuncView (B.words_of self.now.bank) values.now }
         ensures ok { OnOk result (IsShown (O.written out.old) (O.written out.new)
             (page.old.bytes ++ section_lines (B.words_of self.now.bank)) page.new.bytes) }
         ensures failed { OnErr result (AppendsPrefix (O.written out.old) (O.written out.new)

@@ -11,7 +11,7 @@ returns-in-Err-clause-failed g c =
     let d = c.args.self.now in
     let words = g.B.WordBank.words_of d.bank in
     let text : text_in words ≡ c.put_header.new.page.bytes ++ section_lines words =
-    text_is words c.new-page.result.bytes c.put_header.new.page.bytes (header_as d.header) d.read c.new-page.ensures c.put_header.ensures.text in
+    text_is words c.new-page.result.bytes c.put_header.new.page.bytes (header_as d.header) d.opened.header c.new-page.ensures c.put_header.ensures.text in
     subst (AppendsPrefix (g.O.Sink.written c.args.out.now) (g.O.Sink.written c.show_sections.new.out)) (sym text) c.in-Err.ensures.failed
 
 pub returns-clause-ok : goal.returns-clause-ok
@@ -20,7 +20,7 @@ returns-clause-ok g c =
     let words = g.B.WordBank.words_of d.bank in
     let page = c.put_header.new.page.bytes in
     let text : text_in words ≡ page ++ section_lines words =
-    text_is words c.new-page.result.bytes page (header_as d.header) d.read c.new-page.ensures c.put_header.ensures.text in
+    text_is words c.new-page.result.bytes page (header_as d.header) d.opened.header c.new-page.ensures c.put_header.ensures.text in
     end_written c.write_all.result (g.O.Sink.written c.args.out.now) (g.O.Sink.written c.show_sections.new.out) (g.O.Sink.written c.write_all.new.sink) (page ++ section_lines words)
     c.show_sections.new.page.bytes c.as_bytes.result.now (text_in words) text (c.as_bytes.ensures.value ∙ c.as_str.ensures.value) c.in-Ok.ensures.ok c.write_all.ensures.ok
 
@@ -30,6 +30,6 @@ returns-clause-failed g c =
     let words = g.B.WordBank.words_of d.bank in
     let page = c.put_header.new.page.bytes in
     let text : text_in words ≡ page ++ section_lines words =
-    text_is words c.new-page.result.bytes page (header_as d.header) d.read c.new-page.ensures c.put_header.ensures.text in
+    text_is words c.new-page.result.bytes page (header_as d.header) d.opened.header c.new-page.ensures c.put_header.ensures.text in
     end_cut c.write_all.result (g.O.Sink.written c.args.out.now) (g.O.Sink.written c.show_sections.new.out) (g.O.Sink.written c.write_all.new.sink) (page ++ section_lines words)
     c.show_sections.new.page.bytes c.as_bytes.result.now (text_in words) text (c.as_bytes.ensures.value ∙ c.as_str.ensures.value) c.in-Ok.ensures.ok c.write_all.ensures.failed
