@@ -5,11 +5,10 @@ use Rattle.std.specs.List.{AllByRecursion, cons_option}
 use Rattle.std.proofs.lemmas.Bool.Decides.{Decides-eqb}
 use Rattle.std.proofs.lemmas.List.{drop_more}
 use Rattle.std.proofs.lemmas.List.Sums.{sum_by-cons}
-use Rattle.std.proofs.lemmas.Option.{slice_get-get_or}
+use Rattle.std.proofs.lemmas.Option.{slice_get-get_or, slice_get_within}
 use Rattle.sx_spec.specs.declared.Edge.{Edge}
 use Rattle.sx_spec.specs.Systems.{chosen, degree, has_vertex, cells_at}
 use Rattle.sx_spec.proofs.Counts.{all_counted, contains_counted}
-use Rattle.sx_spec.proofs.Witnesses.{below_length}
 use Rattle.sx_peel.specs.declared.Taken.{Taken}
 use Rattle.sx_peel.specs.Peeling.{vertex_in, taken_edges, AreFree, IsTakenOrder}
 use Rattle.sx_static.specs.Solving.{IsMet, AreMet}
@@ -28,7 +27,7 @@ free_at edges order i d inside free = subst (AreFree edges) (drop_more order i d
 pub some_below : {X : Type 0} (P : X → Type 0) (xs : List X) (k : ℕ) → IsSomeAnd (slice_get xs k) P → k < length xs
 some_below P xs k h = elim (slice_get xs k) as (λ o. slice_get xs k ≡ o → IsSomeAnd o P → k < length xs) [
   | None ↦ λ at none. absurd none
-  | Some x ↦ λ at some. below_length xs k x at
+  | Some x ↦ λ at some. slice_get_within xs k x at
 ] refl h
 
 -- the number of an edge that was taken is in range
