@@ -1,11 +1,11 @@
 -- Key lists and what is put to their end.
-use Rattle.std.proofs.Common.{◌≡◌, ℕ, zero, suc, ◌+◌, ◌-◌, ◌<◌, ◌≤◌, List, [], ◌∷◌, ◌++◌, length, take, get_or, refl, sym, ap, subst, ◌∙◌, arith, inl, inr, Option, Some, None, Bool, true, false}
-use Rattle.std.specs.Prelude.{slice_get, filter_map, option_map, ◌⊎◌, if◌then◌else◌}
+use Rattle.std.proofs.Common.{◌≡◌, ℕ, zero, suc, ◌+◌, ◌-◌, ◌<◌, ◌≤◌, List, [], ◌∷◌, ◌++◌, length, take, get_or, refl, sym, ap, subst, ◌∙◌, arith, inl, inr, Option, Some, None}
+use Rattle.std.specs.Prelude.{slice_get, filter_map, option_map, ◌⊎◌}
 use Rattle.std.specs.List.{AllByRecursion, enumerate_from, cons_option}
 use Rattle.std.proofs.lemmas.List.{take-append-le}
 use Rattle.std.proofs.lemmas.List.{length-append}
 use Rattle.std.proofs.lemmas.Bool.{ltb-false}
-use Rattle.sx_spec_strings.specs.First.{first_holding}
+use Rattle.sx_spec_strings.proofs.Lists.{none_kept, none_holds}
 use Rattle.sx_spec.specs.declared.Limits.{Limits}
 use Rattle.sx_spec.specs.Keys.{refusal, reasons, fault_at, total_bytes, AreKeys, IsKeyFile}
 use Rattle.sx_spec.specs.Laws.{AreBytes}
@@ -15,20 +15,6 @@ use Rattle.sx_bits.specs.KeyLists.{Keys, IsKeyList}
 use Rattle.sx_bits.proofs.Cuts.{cut_push, ends_push}
 
 -- ---- lists of which nothing is kept
-
-none_front : {Y : Type 0} (o : Option Y) (ys : List Y) → cons_option o ys ≡ [] → (o ≡ None) × (ys ≡ [])
-none_front None ys e = (refl, e)
-none_front (Some y) ys e = absurd cc
-
-none_kept : {X Y : Type 0} (h : ℕ × X → Option Y) (a : ℕ) (xs : List X) → filter_map h (enumerate_from a xs) ≡ [] → (i : ℕ) (x : X) → slice_get xs i ≡ Some x → h (a + i, x) ≡ None
-none_kept h a [] none i x at = absurd cc
-none_kept h a (y ∷ xs) none zero x at =
-    let same : y ≡ x = cc in
-    let e : a + 0 ≡ a = omega arith in
-    rw (e, ← same) (none_front (h (a, y)) (filter_map h (enumerate_from (a + 1) xs)) none).0
-none_kept h a (y ∷ xs) none (suc i) x at =
-    let e : a + suc i ≡ (a + 1) + i = omega arith in
-    rw e (none_kept h (a + 1) xs (none_front (h (a, y)) (filter_map h (enumerate_from (a + 1) xs)) none).1 i x at)
 
 kept_none : {X Y : Type 0} (h : ℕ × X → Option Y) (a : ℕ) (xs : List X) → ((i : ℕ) (x : X) → slice_get xs i ≡ Some x → h (a + i, x) ≡ None) → filter_map h (enumerate_from a xs) ≡ []
 kept_none h a [] each = refl
@@ -99,14 +85,6 @@ key_file keys valid = faultless_lines_are_keys keys.limits keys.lines valid.faul
 -- what holds of the fields of a key list
 abbrev pub HoldsKeys : Limits → List ℕ → List ℕ → Type 0
 HoldsKeys limits bytes ends = IsKeyList (record { limits = limits; lines = cut 0 ends bytes }) × AreEnds 0 ends (length bytes)
-
-none_holds : {X : Type 0} (rows : List (Bool × X)) → first_holding rows ≡ None → AllByRecursion (λ row. row.0 ≡ false) rows
-none_holds [] none = tt
-none_holds (row ∷ rows) none =
-    elim (row.0) as (λ b. row.0 ≡ b → (if b then Some row.1 else first_holding rows) ≡ None → AllByRecursion (λ r. r.0 ≡ false) (row ∷ rows)) [
-      | true ↦ λ holds found. absurd cc
-      | false ↦ λ fails rest. (fails, none_holds rows rest)
-    ] refl none
 
 -- a line that isn't refused has room
 pub room_for : (limits : Limits) (lines : List (List ℕ)) (line : List ℕ) → refusal limits lines line ≡ None → total_bytes lines + length line ≤ limits.max_bytes

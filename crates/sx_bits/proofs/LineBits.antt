@@ -1,12 +1,12 @@
 -- The bits of a line, one by one.
-use Rattle.std.proofs.Common.{◌≡◌, ℕ, zero, suc, ◌+◌, ◌-◌, ◌*◌, ◌/◌, ◌%◌, false, List, [], ◌∷◌, ◌++◌, length, get_or, refl, sym, ap, ◌∙◌, arith, inl, inr}
+use Rattle.std.proofs.Common.{◌≡◌, ℕ, zero, suc, ◌-◌, ◌/◌, ◌%◌, false, List, [], ◌∷◌, ◌++◌, get_or, refl, sym, ap, ◌∙◌, arith, inl, inr}
 use Rattle.std.specs.Prelude.{◌==◌}
 use Rattle.std.specs.Int.{bit_at}
 use Rattle.std.proofs.lemmas.Bool.{cases_lt}
-use Rattle.std.proofs.lemmas.List.{length-append, get_or_append_left, get_or-append_right}
+use Rattle.std.proofs.lemmas.List.{get_or_append_left, get_or-append_right}
 use Rattle.std.proofs.lemmas.Nat.Bits.{bit_at-zero}
-use Rattle.sx_spec.proofs.Signatures.{length-bytes_bits}
-use Rattle.sx_bits.proofs.NumberBits.{length-number_bits, get_or-number_bits}
+use Rattle.sx_spec.proofs.Signatures.{length-number_bits}
+use Rattle.sx_bits.proofs.NumberBits.{get_or-number_bits}
 use Rattle.sx_spec_strings.specs.Bits.{number_bits, bytes_bits, key_bits}
 
 -- ---- the bits of bytes
@@ -44,7 +44,3 @@ zero_after (b ∷ line) (suc i) = zero_after line i
 pub bit_of_line : (line : List ℕ) (p : ℕ) → get_or (key_bits line) p false ≡ (bit_at (get_or line (p / 8) 0) (7 - p % 8) == 1)
 unfolding key_bits
 bit_of_line line p = bit_of_bytes (line ++ 0 ∷ []) p ∙ ap (λ b. bit_at b (7 - p % 8) == 1) (zero_after line (p / 8))
-
-pub length-key_bits : (line : List ℕ) → length (key_bits line) ≡ 8 * (length line + 1)
-unfolding key_bits
-length-key_bits line = length-bytes_bits (line ++ 0 ∷ []) ∙ ap (λ n. 8 * n) (length-append line (0 ∷ []))

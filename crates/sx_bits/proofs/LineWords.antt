@@ -1,5 +1,5 @@
 -- Words of a line's bits, and where two of them part.
-use Rattle.std.proofs.Common.{◌≡◌, ℕ, zero, suc, ◌+◌, ◌-◌, ◌*◌, ◌/◌, ◌%◌, ◌^◌, ◌<◌, ◌≤◌, false, List, length, get_or, take, drop, refl, sym, ap, ◌∙◌, arith, inl, inr}
+use Rattle.std.proofs.Common.{◌≡◌, ℕ, suc, ◌+◌, ◌-◌, ◌*◌, ◌/◌, ◌%◌, ◌^◌, ◌<◌, ◌≤◌, false, List, length, get_or, take, drop, sym, ap, ◌∙◌, arith, inl, inr}
 use Rattle.std.specs.Prelude.{◌==◌, min, bit_xor}
 use Rattle.std.specs.Int.{bit_at}
 use Rattle.std.proofs.lemmas.Bool.{cases_lt}
@@ -9,6 +9,7 @@ use Rattle.std.proofs.lemmas.Nat.Bits.{bit_at-zero, bit_at-lt, bit_at_xor, bit_a
 use Rattle.std.proofs.Math.Nat.{pow-succ'}
 use lib.Count.{count_leading_zeros}
 use Rattle.sx_spec_strings.specs.Bits.{Bits, key_bits, common_prefix}
+use Rattle.sx_spec_strings.proofs.KeyBits.{same_bit as one_or_none}
 use Rattle.sx_bits.proofs.LineBits.{bit_of_line}
 use Rattle.sx_bits.proofs.Prefixes.{common_length}
 
@@ -36,15 +37,6 @@ same_bit a b k none =
     let lb = bit_at-lt b k in
     let same : bit_at a k ≡ bit_at b k = omega arith in
     ap (λ m. m == 1) same
-
-one_or_none : (x y : ℕ) → x < 2 → y < 2 → (x == 1) ≡ (y == 1) → x ≡ y
-one_or_none zero zero lx ly e = refl
-one_or_none zero (suc zero) lx ly e = absurd cc
-one_or_none (suc zero) zero lx ly e = absurd cc
-one_or_none (suc zero) (suc zero) lx ly e = refl
-one_or_none (suc (suc x)) y lx ly e = absurd (omega arith)
-one_or_none zero (suc (suc y)) lx ly e = absurd (omega arith)
-one_or_none (suc zero) (suc (suc y)) lx ly e = absurd (omega arith)
 
 other_bit : (a b k : ℕ) → bit_at (bit_xor a b) k ≡ 1 → (bit_at a k == 1) ≡ (bit_at b k == 1) → ⊥
 other_bit a b k one same =

@@ -1,21 +1,17 @@
 -- The bits of a number, the highest first, and the number that bits write.
-use Rattle.std.proofs.Common.{◌≡◌, ℕ, zero, suc, ◌+◌, ◌-◌, ◌*◌, ◌/◌, ◌%◌, ◌^◌, ◌<◌, ◌≤◌, false, cond, length, get_or, refl, sym, ap, ◌∙◌, arith, lit<}
+use Rattle.std.proofs.Common.{◌≡◌, ℕ, zero, suc, ◌+◌, ◌-◌, ◌*◌, ◌/◌, ◌%◌, ◌^◌, ◌<◌, ◌≤◌, false, cond, length, get_or, refl, sym, ap, ◌∙◌, arith}
 use Rattle.std.specs.Prelude.{◌==◌, fold}
 use Rattle.std.specs.Int.{bit_at}
 use Rattle.std.proofs.lemmas.List.{ext_get_or}
 use Rattle.std.proofs.lemmas.Nat.{shr-shr, shr_split}
 use Rattle.std.proofs.lemmas.Nat.Bits.{bit_at-zero, bit_at-lt, bit_at_cat_low, bit_at_cat_high}
-use Rattle.std.proofs.Math.Arith.{mod-mul}
 use Rattle.std.proofs.Math.Nat.{mod-one, mod-eq_of_lt, pow-succ', pow-zero}
 use Rattle.std.proofs.Math.Pow.{pow_pos}
 use Rattle.sx_spec_strings.specs.Bits.{Bits, number_bits, bits_number}
+use Rattle.sx_spec_strings.proofs.KeyBits.{low_split}
+use Rattle.sx_spec.proofs.Signatures.{length-number_bits}
 
 -- ---- the bits of a number
-
-pub length-number_bits : (n x : ℕ) → length (number_bits n x) ≡ n
-unfolding number_bits
-length-number_bits zero x = refl
-length-number_bits (suc n) x = ap suc (length-number_bits n x)
 
 pub get_or-number_bits : (n x j : ℕ) → j < n → get_or (number_bits n x) j false ≡ (bit_at x (n - 1 - j) == 1)
 unfolding number_bits
@@ -26,10 +22,6 @@ get_or-number_bits (suc n) x zero lt =
 get_or-number_bits (suc n) x (suc j) lt =
     let e : n - 1 - j ≡ suc n - 1 - suc j = omega arith in
     get_or-number_bits n x j (omega arith) ∙ ap (λ m. bit_at x m == 1) e
-
--- the lowest bits of a number: the highest of them, and the rest
-low_split : (n a : ℕ) → a % 2 ^ suc n ≡ bit_at a n * 2 ^ n + a % 2 ^ n
-low_split n a = ap (λ m. a % m) (pow-succ' 2 n) ∙ mod-mul a (lit< tt) (pow_pos n)
 
 bit_value : (b : ℕ) → b < 2 → cond (b == 1) 1 0 ≡ b
 bit_value zero small = refl

@@ -4,9 +4,10 @@ use Rattle.std.specs.Prelude.{◌==◌}
 use Rattle.std.specs.Int.{bit_at}
 use Rattle.std.proofs.lemmas.List.{length-take, length-drop, get_or-take, get_or-drop, drop-take, take-take, drop-drop}
 use Rattle.sx_spec_strings.specs.Bits.{key_bits}
+use Rattle.sx_spec.proofs.Signatures.{length-key_bits}
 use Rattle.sx_bits.specs.declared.view.BitView.{BitView}
 use Rattle.sx_bits.specs.Views.{bits_of}
-use Rattle.sx_bits.proofs.LineBits.{bit_of_line, length-key_bits}
+use Rattle.sx_bits.proofs.LineBits.{bit_of_line}
 
 pub length-bits_of : (v : BitView) → length (bits_of v) ≡ v.to - v.from
 unfolding bits_of

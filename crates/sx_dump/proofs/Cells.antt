@@ -1,17 +1,15 @@
 -- How many cells and words a function has.
-use Rattle.std.proofs.Common.{◌≡◌, ℕ, zero, suc, ◌+◌, ◌*◌, ◌^◌, ◌<◌, ◌≤◌, Bool, true, false, cond, List, [], ◌∷◌, length, refl, arith, inl, inr}
-use Rattle.std.specs.Prelude.{◌==◌, filter, nat_le}
+use Rattle.std.proofs.Common.{◌≡◌, ℕ, zero, suc, ◌+◌, ◌*◌, ◌<◌, ◌≤◌, Bool, true, false, cond, List, [], ◌∷◌, length, refl, arith, inl, inr}
+use Rattle.std.specs.Prelude.{◌==◌, filter}
 use Rattle.std.specs.List.{AllZip, range_with_len}
-use Rattle.std.proofs.lemmas.Bool.{cases_eq, eq-eqb, ne_eqb, le-leb}
+use Rattle.std.proofs.lemmas.Bool.{cases_eq, eq-eqb, ne_eqb}
 use Rattle.std.proofs.Math.Nat.{mul-le-mul_left}
-use Rattle.sx_spec_strings.specs.Numbers.{binary_digits}
-use Rattle.sx_spec_strings.proofs.NumberLaws.{least_from_le}
 use Rattle.sx_spec.specs.declared.Method.{Method}
-use Rattle.sx_spec.specs.declared.Method.TheVariants.{Mwhc, Gov3}
-use Rattle.sx_spec.specs.Chunks.{segment, chunk_bits, chunk_size}
+use Rattle.sx_spec.specs.Chunks.{segment}
 use Rattle.sx_spec.specs.Fields.{words_for}
 use Rattle.sx_spec.specs.StaticFunction.{Entry, Chunk, Function, cell_count, chunk_of_entry, chunk_entries, IsBuiltChunk}
 use Rattle.sx_spec.proofs.Sections.{cell_count-cons}
+use Rattle.sx_static.proofs.Counting.{few_cells}
 
 -- ---- each entry lies in one chunk at most
 
@@ -65,12 +63,6 @@ covered_le chunk a n (e ∷ es) =
 
 -- ---- cells
 
-segment_le : (method : Method) (m : ℕ) → 3 * segment method m ≤ 2 * m + 6
-segment_le Mwhc zero = omega arith
-segment_le Gov3 zero = omega arith
-segment_le Mwhc (suc m) = omega arith
-segment_le Gov3 (suc m) = omega arith
-
 cells_of_chunks : (method : Method) (entries : List Entry) (f : Function) (a n : ℕ) (chunks : List Chunk) → AllZip (IsBuiltChunk method entries f) (range_with_len a n) chunks
     → (length chunks ≡ n) × (cell_count chunks ≤ 2 * covered (chunk_of_entry (length entries)) a n entries + 6 * n)
 cells_of_chunks method entries f a zero [] all = (refl, omega arith)
@@ -80,7 +72,7 @@ cells_of_chunks method entries f a (suc n) (c ∷ chunks) all =
     let (count, rest) = cells_of_chunks method entries f (a + 1) n chunks all.1 in
     let split = cell_count-cons c chunks in
     let here = all.0.segment in
-    let most = segment_le method (length (chunk_entries entries a)) in
+    let most = few_cells method (length (chunk_entries entries a)) in
     (omega arith, omega arith)
 
 -- the chunks, and their cells
@@ -96,7 +88,3 @@ pub words_le : (n width : ℕ) → width ≤ 64 → words_for (n * width) ≤ n
 words_le n width narrow =
     let most : n * width ≤ n * 64 = mul-le-mul_left n narrow in
     omega arith
-
--- chunks of at most 1,024 pairs on average are enough
-pub bits_le : (pairs c : ℕ) → pairs ≤ 1024 * 2 ^ c → chunk_bits pairs ≤ c
-bits_le pairs c le = least_from_le (λ k. nat_le pairs (chunk_size * 2 ^ k)) (binary_digits pairs) 0 c (omega arith) (le-leb pairs (1024 * 2 ^ c) le)

@@ -30,11 +30,12 @@ use Rattle.sx_spec.proofs.Members.{zip_at}
 use Rattle.sx_spec.proofs.Replies.{built_dumps_answer_members}
 use Rattle.sx_spec.proofs.Words.{length-words_bytes}
 use Rattle.sx_bits.specs.KeyLists.{IsWithinStandard}
+use Rattle.sx_sig.proofs.ChunkBits.{chunk_bits_le}
 use Rattle.sx_static.specs.declared.FuncBuf.{FuncBuf}
 use Rattle.sx_static.specs.declared.Built.{Built}
 use Rattle.sx_static.specs.Answer.{IsAnswer, IsDone, entries_of, function_of}
 use Rattle.sx_dump.specs.Assembling.{IsDumpOf, function_dump_words, key_signature, tries}
-use Rattle.sx_dump.proofs.Cells.{bits_le, cells_few, words_le}
+use Rattle.sx_dump.proofs.Cells.{cells_few, words_le}
 
 -- ---- the entries of the one part
 
@@ -117,7 +118,7 @@ module _ (lines : List Text) (values : List ℕ) (seed kept : ℕ) (method : Met
       length_zip (map (key_signature seed kept) lines) values (sources.as_many ∙ sym a) ∙ a
 
   few_bits : chunk_bits (length entries) ≤ 12
-  few_bits = let n = few_keys in let c = entry_count in bits_le (length entries) 12 (omega arith)
+  few_bits = let n = few_keys in let c = entry_count in chunk_bits_le (length entries) 12 (omega arith)
 
   few_chunks : chunk_count (length entries) ≤ 4096
   few_chunks = pow_mono few_bits

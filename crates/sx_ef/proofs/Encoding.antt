@@ -8,6 +8,7 @@ use Rattle.std.proofs.lemmas.List.Sums.{sum_by-cons}
 use Rattle.std.proofs.lemmas.Nat.{pow_pos, or_comm, or_shifted, pow_below, le-div}
 use Rattle.std.proofs.Math.Nat.{pow-succ', div-lt_iff_lt-mul, mod-eq_of_lt, add-mul, div-mul-le_self}
 use Rattle.std.proofs.Math.Pow.{pow_mono}
+use Rattle.sx_spec_strings.proofs.NumberLaws.{div_mono}
 use Rattle.sx_spec.specs.Fields.{words_number, words_for}
 use Rattle.sx_fields.proofs.WordNumbers.{AreWords, power_split, number_front, number_drop, number_set}
 use Rattle.sx_ef.specs.Parts.{places_number}
@@ -116,9 +117,6 @@ places_step list words width bits i p w place is small size within inside number
           let most : 2 ^ suc p ≤ 2 ^ (get_or list (i + 1) 0 / 2 ^ width + (i + 1)) = pow_mono (let h : suc p ≤ get_or list (i + 1) 0 / 2 ^ width + (i + 1) = omega arith in h) in
           omega arith;
     })
-  where
-    div_mono : (x y m : ℕ) → 0 < m → x ≤ y → x / m ≤ y / m
-    div_mono x y m some le = let part = div-mul-le_self x m in le-div (x / m) y m some (omega arith)
 
 -- ---- the last number
 

@@ -1,80 +1,21 @@
 -- Words that pass are the words of the list that they stand for.
-use Rattle.std.proofs.Common.{◌≡◌, ℕ, zero, suc, ◌+◌, ◌-◌, ◌*◌, ◌/◌, ◌%◌, ◌^◌, ◌<◌, ◌≤◌, true, false, cond, List, [], ◌∷◌, ◌++◌, length, map, take, drop, refl, sym, ap, ◌∙◌, arith, lit<, ◌↔◌}
-use Rattle.std.specs.Prelude.{◌==◌, filter, sum_by}
-use Rattle.std.specs.Int.{bit_at}
-use Rattle.std.specs.List.{AllByRecursion, enumerate_from, range_with_len}
+use Rattle.std.proofs.Common.{◌≡◌, ℕ, ◌+◌, ◌*◌, ◌/◌, ◌%◌, ◌^◌, ◌<◌, true, List, ◌++◌, length, map, take, drop, sym, ap, ◌∙◌, arith, lit<, ◌↔◌}
+use Rattle.std.specs.Prelude.{◌==◌, sum_by}
+use Rattle.std.specs.List.{enumerate_from}
 use Rattle.std.proofs.lemmas.Bool.{and_parts, ltb-true, eqb-true}
 use Rattle.std.proofs.lemmas.List.{length-drop, length-take-le, take-append-drop, take_all}
-use Rattle.std.proofs.Math.Nat.{pow-zero, mul_comm, add-mul-div_left, div-eq_of_lt, add-mul-mod_self_left, mod-eq_of_lt}
+use Rattle.std.proofs.Math.Nat.{pow-zero, mod-eq_of_lt}
 use Rattle.std.proofs.Math.Pow.{pow_pos}
 use Rattle.sx_spec_strings.specs.Numbers.{lowest_digits}
-use Rattle.sx_spec.specs.Fields.{number_words, words_number, packed, fields, is_zero_after, below_of, low_width, upper_bits, low_words, upper_words, ones_of, joined}
+use Rattle.sx_spec_strings.proofs.Lists.{all_taken}
+use Rattle.sx_spec.specs.Fields.{number_words, words_number, packed, fields, is_zero_after, below_of, low_width, upper_bits, low_words, upper_words, ones_of}
 use Rattle.sx_spec.proofs.Digits.{digits_of_number, length-lowest_digits}
-use Rattle.sx_spec.proofs.EliasFano.{powers, Rises, places, sum_is}
+use Rattle.sx_spec.proofs.EliasFano.{powers, sum_is}
 use Rattle.sx_spec.proofs.FuncDumps.{digits_small}
-use Rattle.sx_spec.proofs.Reading.{packed_again, ones_sum, all_dropped}
+use Rattle.sx_spec.proofs.Reading.{packed_again, ones_sum, all_dropped, items_of, ones_rise, places_back, lows_back, length-items}
 use Rattle.sx_fields.proofs.WordNumbers.{AreWords}
 use Rattle.sx_ef.specs.Parts.{IsEncoded, low_size, upper_size, numbers_in, never_falls, is_sums_list}
 use Rattle.sx_ef.proofs.RoundTrip.{encoded_is_valid}
-
-all_taken : (P : ℕ → Type 0) (n : ℕ) (xs : List ℕ) → AllByRecursion P xs → AllByRecursion P (take n xs)
-all_taken P zero xs all = tt
-all_taken P (suc n) [] all = tt
-all_taken P (suc n) (x ∷ xs) all = (all.0, all_taken P n xs all.1)
-
-weaker_rise : (a c : ℕ) (ps : List ℕ) → a ≤ c → Rises c ps → Rises a ps
-weaker_rise a c [] le rises = tt
-weaker_rise a c (p ∷ ps) le rises = ((let h = rises.0 in omega arith), rises.1)
-
-ones_rise : (n a x : ℕ) → Rises a (filter (λ k. bit_at x k == 1) (range_with_len a n))
-ones_rise zero a x = tt
-ones_rise (suc n) a x =
-    let rest = ones_rise n (a + 1) x in
-    elim (bit_at x a == 1) as (λ t. Rises a (cond t (a ∷ filter (λ k. bit_at x k == 1) (range_with_len (a + 1) n)) (filter (λ k. bit_at x k == 1) (range_with_len (a + 1) n)))) [
-      | true ↦ (omega arith, weaker_rise (suc a) (a + 1) _ (omega arith) rest)
-      | false ↦ weaker_rise a (a + 1) _ (omega arith) rest
-    ]
-
-high_of : (q m r : ℕ) → r < m → (q * m + r) / m ≡ q
-high_of q m r small =
-    let e : q * m + r ≡ r + m * q = let c = mul_comm q m in omega arith in
-    ap (λ n. n / m) e ∙ add-mul-div_left r q (omega arith) ∙ (let d = div-eq_of_lt small in omega arith)
-
-low_of : (q m r : ℕ) → r < m → (q * m + r) % m ≡ r
-low_of q m r small =
-    let e : q * m + r ≡ r + m * q = let c = mul_comm q m in omega arith in
-    ap (λ n. n % m) e ∙ add-mul-mod_self_left r m q ∙ mod-eq_of_lt small
-
--- the items of places and low bits
-abbrev items_of : ℕ → ℕ → List ℕ → List ℕ → List ℕ
-items_of l n ones lows = joined l (map (λ (p : ℕ × ℕ). p.1 - p.0) (enumerate_from n ones)) lows
-
-places_back : (l n : ℕ) (ones lows : List ℕ) → length ones ≡ length lows → Rises n ones → AllByRecursion (λ x. x < 2 ^ l) lows → places l n (items_of l n ones lows) ≡ ones
-unfolding places
-places_back l n [] [] same rises small = refl
-places_back l n [] (r ∷ lows) same rises small = absurd (omega arith)
-places_back l n (o ∷ ones) [] same rises small = absurd (omega arith)
-places_back l n (o ∷ ones) (r ∷ lows) same rises small =
-    let le = rises.0 in
-    let high = high_of (o - n) (2 ^ l) r small.0 in
-    let here : ((o - n) * 2 ^ l + r) / 2 ^ l + n ≡ o = omega arith in
-    let rest = places_back l (n + 1) ones lows (omega arith) (weaker_rise (n + 1) (suc o) ones (omega arith) rises.1) small.1 in
-    λ i. here i ∷ rest i
-
-lows_back : (l n : ℕ) (ones lows : List ℕ) → length ones ≡ length lows → AllByRecursion (λ x. x < 2 ^ l) lows → map (λ x. x % 2 ^ l) (items_of l n ones lows) ≡ lows
-lows_back l n [] [] same small = refl
-lows_back l n [] (r ∷ lows) same small = absurd (omega arith)
-lows_back l n (o ∷ ones) [] same small = absurd (omega arith)
-lows_back l n (o ∷ ones) (r ∷ lows) same small =
-    let here = low_of (o - n) (2 ^ l) r small.0 in
-    let rest = lows_back l (n + 1) ones lows (omega arith) small.1 in
-    λ i. here i ∷ rest i
-
-length-items : (l n : ℕ) (ones lows : List ℕ) → length ones ≡ length lows → length (items_of l n ones lows) ≡ length lows
-length-items l n [] [] same = refl
-length-items l n [] (r ∷ lows) same = absurd (omega arith)
-length-items l n (o ∷ ones) [] same = absurd (omega arith)
-length-items l n (o ∷ ones) (r ∷ lows) same = ap suc (length-items l (n + 1) ones lows (omega arith))
 
 whole_number : (x bits : ℕ) → x < 2 ^ bits → (x / 2 ^ 0 % 2 ^ bits) * 2 ^ 0 ≡ x
 whole_number x bits below = rw (pow-zero 2) (let d : x / 1 ≡ x = omega arith in rw (d, mod-eq_of_lt below) (omega arith))

@@ -1,7 +1,7 @@
 -- A field inside one word or across two: how it is read, and what the words are after a change of it.
 use Rattle.std.proofs.Common.{◌≡◌, ◌≢◌, ℕ, suc, ◌+◌, ◌-◌, ◌*◌, ◌/◌, ◌%◌, ◌^◌, ◌<◌, ◌≤◌, List, length, get_or, set, drop, refl, sym, ap, subst, ◌∙◌, arith}
 use Rattle.std.specs.Prelude.{bit_xor, bit_or, bit_and}
-use Rattle.std.specs.Int.Bits.{xor_assoc, xor_self, xor_zero_r, xor_zero_l}
+use Rattle.std.specs.Int.Bits.{xor_zero_r}
 use Rattle.std.proofs.lemmas.List.{length-set, get_or-set_other}
 use Rattle.std.proofs.lemmas.Nat.{pow_pos, div-add-mod', div-mul-add, mod-mul-add, shr_below, shl_below, or_comm, or_shifted, xor_lt, xor_block, xor_mod, xor_shr, and_mask, shl_whole, mod_below}
 use Rattle.std.proofs.lemmas.Nat.Bits.{ones_shr}
@@ -9,6 +9,7 @@ use Rattle.std.proofs.Math.Nat.{add-mul-mod_self_left, add-mul-div_left, mod-eq_
 use Rattle.std.proofs.Math.Arith.{mod-mul}
 use Rattle.sx_spec.specs.Fields.{words_number, fields}
 use Rattle.sx_spec.proofs.Digits.{power_of_power}
+use Rattle.sx_spec.proofs.Sums.{xor_twice}
 use Rattle.sx_fields.proofs.WordNumbers.{AreWords, power_split, digit_at, number_front, number_from_bit, number_set}
 
 -- ---- reading
@@ -100,10 +101,6 @@ joined_words w v s t width small both narrow =
 
 -- ---- writing
 
--- what was there, with the change, is what is to stand there
-changed : (f v : ℕ) → bit_xor f (bit_xor f v) ≡ v
-changed f v = sym (xor_assoc f f v) ∙ ap (λ z. bit_xor z v) (xor_self f) ∙ xor_zero_l v
-
 -- a number whose bits from s on, without the lowest s, are changed
 change_from : (w c s : ℕ) → bit_xor w (c * 2 ^ s) ≡ bit_xor (w / 2 ^ s) c * 2 ^ s + w % 2 ^ s
 change_from w c s =
@@ -130,7 +127,7 @@ inside_changed w v s width fits inside =
     let old : f < 2 ^ width = mod_below (w / 2 ^ s) (2 ^ width) (pow_pos width) in
     let small : c < 2 ^ width = xor_lt width f v old fits in
     let whole : c * 2 ^ s % 2 ^ 64 ≡ c * 2 ^ s = shl_whole c width s 64 small (omega arith) in
-    let high : bit_xor (w / 2 ^ s) c ≡ w / 2 ^ s / 2 ^ width * 2 ^ width + v = change_low (w / 2 ^ s) c width small ∙ ap (λ m. w / 2 ^ s / 2 ^ width * 2 ^ width + m) (changed f v) in
+    let high : bit_xor (w / 2 ^ s) c ≡ w / 2 ^ s / 2 ^ width * 2 ^ width + v = change_low (w / 2 ^ s) c width small ∙ ap (λ m. w / 2 ^ s / 2 ^ width * 2 ^ width + m) (xor_twice f v) in
     let is : bit_xor w (c * 2 ^ s % 2 ^ 64) ≡ (w / 2 ^ s / 2 ^ width * 2 ^ width + v) * 2 ^ s + w % 2 ^ s =
     ap (bit_xor w) whole ∙ change_from w c s ∙ ap (λ m. m * 2 ^ s + w % 2 ^ s) high in
     let split = div-add-mod' w (2 ^ s) in
@@ -161,10 +158,10 @@ across_changed w u v s t width small fits both over narrow =
     let u_fits : u % 2 ^ r < 2 ^ r = mod_below u (2 ^ r) (pow_pos r) in
     let new_low : bit_xor w (c * 2 ^ s % 2 ^ 64) ≡ v % 2 ^ t * 2 ^ s + w % 2 ^ s =
     ap (bit_xor w) (shifted c t s (omega arith)) ∙ change_from w (c % 2 ^ t) s
-    ∙ ap (λ m. m * 2 ^ s + w % 2 ^ s) (ap (bit_xor a) c_low ∙ changed a (v % 2 ^ t)) in
+    ∙ ap (λ m. m * 2 ^ s + w % 2 ^ s) (ap (bit_xor a) c_low ∙ xor_twice a (v % 2 ^ t)) in
     let new_high : bit_xor u (c / 2 ^ t) ≡ u / 2 ^ r * 2 ^ r + v / 2 ^ t =
     ap (bit_xor u) c_high ∙ change_low u (bit_xor (u % 2 ^ r) (v / 2 ^ t)) r (xor_lt r (u % 2 ^ r) (v / 2 ^ t) u_fits high_fits)
-    ∙ ap (λ m. u / 2 ^ r * 2 ^ r + m) (changed (u % 2 ^ r) (v / 2 ^ t)) in
+    ∙ ap (λ m. u / 2 ^ r * 2 ^ r + m) (xor_twice (u % 2 ^ r) (v / 2 ^ t)) in
     let w_split = div-add-mod' w (2 ^ s) in
     let u_split = div-add-mod' u (2 ^ r) in
     let v_split : v * 2 ^ s ≡ v / 2 ^ t * 2 ^ 64 + v % 2 ^ t * 2 ^ s =

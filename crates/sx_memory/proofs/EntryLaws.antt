@@ -5,7 +5,7 @@ use Rattle.std.specs.Prelude.{unwrap_or, option_and_then, slice_get}
 use Rattle.std.proofs.lemmas.Bool.{cases_lt}
 use Rattle.std.proofs.lemmas.Bool.Decides.{nat_tests}
 use Rattle.std.proofs.lemmas.Slice.Eq.{bytes_eq-Decides}
-use Rattle.std.proofs.lemmas.Option.{get_or_from_slice_get, slice_get-get_or}
+use Rattle.std.proofs.lemmas.Option.{get_or_from_slice_get, slice_get-get_or, slice_get_within}
 use Rattle.std.proofs.lemmas.List.Folds.{find-set, find_at, position_or_len-set}
 use Rattle.std.proofs.lemmas.List.Sums.{passes_at_first}
 use Rattle.std.specs.List.{find, position_or_len}
@@ -91,11 +91,6 @@ stands_at name entries place entry e is =
 pub no_entry : (name : List ℕ) (entries : List Entry) → place_named name entries ≡ None → find (is_named name) entries ≡ None
 no_entry name entries e = find_at (is_named name) entries ∙ get_past entries (position_or_len (is_named name) entries) (none_cases (position_or_len (is_named name) entries) (length entries) e)
 
-get_within : {X : Type 0} (xs : List X) (i : ℕ) (x : X) → slice_get xs i ≡ Some x → i < length xs
-get_within [] i x e = absurd cc
-get_within (y ∷ xs) zero x e = omega arith
-get_within (y ∷ xs) (suc i) x e = omega (arith, get_within xs i x e)
-
 holds_true : (test : Entry → Bool) (o : Option Entry) → holds_of test o ≡ true → (entry : Entry) × (o ≡ Some entry) × (test entry ≡ true)
 holds_true test None e = absurd cc
 holds_true test (Some entry) e = (entry, refl, e)
@@ -111,7 +106,7 @@ writes_at entries file entry is placed =
     let place : position_or_len (is_named entry.name.items) entries ≡ file = rw same (grind (arith, nat_tests, h.2)) in
     record {
       at = here;
-      within = get_within entries file entry here;
+      within = slice_get_within entries file entry here;
       first = sym place;
       found = find_at (is_named entry.name.items) entries ∙ rw place here;
       named = refl;

@@ -6,13 +6,14 @@ use Rattle.std.proofs.lemmas.Bool.Decides.{Decides-eqb}
 use Rattle.std.proofs.lemmas.List.{append_assoc, length_push, length-append, length-set, map_push, take_more_set, drop_more, drop-set-lt}
 use Rattle.std.proofs.lemmas.List.Elements.{filter_map-append, All-push, All-same}
 use Rattle.std.proofs.lemmas.List.Sums.{sum_by-append, sum_by-cons}
+use Rattle.sx_spec_strings.proofs.Lists.{all_without}
 use Rattle.sx_spec.specs.declared.Edge.{Edge}
 use Rattle.sx_spec.specs.Systems.{count_of, chosen, degree, has_vertex}
 use Rattle.sx_spec.proofs.Counts.{front_cases}
 use Rattle.sx_peel.specs.declared.Taken.{Taken}
 use Rattle.sx_peel.specs.Peeling.{vertex_in, taken_edges}
 use Rattle.sx_peel.specs.Rounds.{degree_among, IsKept, AreFreeBefore, IsBetween, IsWithinRound}
-use Rattle.sx_peel.proofs.Numbers.{count_of-append, count_of_middle, rising_without, all_without}
+use Rattle.sx_peel.proofs.Numbers.{count_of-append, count_of_middle, rising_without}
 
 -- ---- degrees among some of the edges
 

@@ -6,13 +6,15 @@ use Rattle.std.proofs.lemmas.Bool.{cases_lt}
 use Rattle.std.proofs.lemmas.Bool.Decides.{Decides-ltb}
 use Rattle.std.proofs.lemmas.List.{take_all, drop_all, append-nil, length-map, nil_from_length}
 use Rattle.std.proofs.lemmas.List.Elements.{recursion_from_All}
+use Rattle.std.proofs.lemmas.List.FromFn.{length-range_with_len}
+use Rattle.sx_spec_strings.proofs.Lists.{range_rising}
 use Rattle.sx_spec.specs.declared.Edge.{Edge}
 use Rattle.sx_spec.specs.Systems.{count_of, chosen, degree, has_vertex, vertices, IsCore, IsPeeling}
 use Rattle.sx_spec.proofs.Counts.{front_cases, all_counted, all_at}
 use Rattle.sx_peel.specs.declared.Taken.{Taken}
 use Rattle.sx_peel.specs.Peeling.{IsEdgeWithin, vertex_in, taken_edges, AreFree, IsTakenOrder}
 use Rattle.sx_peel.specs.Rounds.{degree_among, HasNoSingle, IsKept, AreFreeBefore, IsBetween, IsWithinRound}
-use Rattle.sx_peel.proofs.Numbers.{counted_contains, range_rising, range_once, range_within, range_length, chosen_whole}
+use Rattle.sx_peel.proofs.Numbers.{counted_contains, range_once, range_within, chosen_whole}
 use Rattle.sx_peel.proofs.Between.{degree_of_left, vertex_lies_on}
 
 -- ---- the beginning
@@ -23,7 +25,7 @@ pub all_left : (edges : List Edge) (degrees : List ℕ) (bound : ℕ) → length
 all_left edges degrees bound size counts = record {
   counted = λ v h. counts v (omega arith) ∙ ap (degree v) (sym (chosen_whole edges));
   each = λ i h. let once = range_once 0 (length edges) i (omega arith) (omega arith) in omega arith;
-  many = let n = range_length 0 (length edges) in omega arith;
+  many = let n = length-range_with_len 0 (length edges) in omega arith;
   within = range_within 0 (length edges) (length edges) (omega arith);
   rising = range_rising 0 (length edges);
   free = tt;

@@ -1,11 +1,12 @@
 -- Lists of numbers: one taken out of the middle, and the numbers below a count.
-use Rattle.std.proofs.Common.{◌≡◌, ℕ, zero, suc, ◌+◌, ◌<◌, ◌≤◌, cond, List, [], ◌∷◌, ◌++◌, length, refl, ap, subst, zero-add, add-one, ◌∙◌, arith, inl, inr, Some}
+use Rattle.std.proofs.Common.{◌≡◌, ℕ, zero, suc, ◌+◌, ◌<◌, ◌≤◌, cond, List, [], ◌∷◌, ◌++◌, length, refl, ap, subst, add-one, ◌∙◌, arith, inl, inr, Some}
 use Rattle.std.specs.Prelude.{◌==◌, slice_get, Contains}
 use Rattle.std.specs.List.{AllByRecursion, cons_option, range_with_len}
 use Rattle.std.specs.List.Sorted.{IsStrictlyIncreasing}
 use Rattle.std.proofs.lemmas.Bool.{cases_lt}
 use Rattle.std.proofs.lemmas.List.{length_push, append_assoc}
 use Rattle.std.proofs.lemmas.List.Sums.{sum_by-append}
+use Rattle.sx_spec_strings.proofs.Lists.{at_length}
 use Rattle.sx_spec.specs.Systems.{count_of, chosen}
 use Rattle.sx_spec.proofs.Counts.{count_of-cons, front_cases, rising_tail, rising_above}
 
@@ -49,10 +50,6 @@ rising_without (z ∷ zs) x ys rising =
     (λ j counted. rising_above z (zs ++ x ∷ ys) rising j (let e = count_of_middle j x zs ys in omega arith))
     (rising_without zs x ys (rising_tail z (zs ++ x ∷ ys) rising))
 
-pub all_without : {X : Type 0} (P : X → Type 0) (xs : List X) (x : X) (ys : List X) → AllByRecursion P (xs ++ x ∷ ys) → AllByRecursion P (xs ++ ys)
-all_without P [] x ys all = all.1
-all_without P (z ∷ zs) x ys all = (all.0, all_without P zs x ys all.1)
-
 -- ---- the numbers below a count
 
 range_counted : (a n j : ℕ) → 0 < count_of j (range_with_len a n) → (a ≤ j) × (j < a + n)
@@ -62,13 +59,6 @@ range_counted a (suc n) j some =
       | inl here ↦ let e = here.0 in (omega arith, omega arith)
       | inr later ↦ let (low, high) = range_counted (a + 1) n j (omega arith) in (omega arith, omega arith)
     ]
-
-pub range_rising : (a n : ℕ) → IsStrictlyIncreasing (range_with_len a n)
-range_rising a zero = λ k h. absurd (omega arith)
-range_rising a (suc n) =
-    rising_cons a (range_with_len (a + 1) n)
-    (λ j counted. let (low, high) = range_counted (a + 1) n j counted in omega arith)
-    (range_rising (a + 1) n)
 
 pub range_once : (a n j : ℕ) → a ≤ j → j < a + n → count_of j (range_with_len a n) ≡ 1
 range_once a zero j low high = absurd (omega arith)
@@ -90,27 +80,6 @@ range_once a (suc n) j low high =
 pub range_within : (a n m : ℕ) → a + n ≤ m → AllByRecursion (λ i. i < m) (range_with_len a n)
 range_within a zero m high = tt
 range_within a (suc n) m high = (omega arith, range_within (a + 1) n m (omega arith))
-
-pub range_length : (a n : ℕ) → length (range_with_len a n) ≡ n
-range_length a zero = refl
-range_length a (suc n) = ap suc (range_length (a + 1) n)
-
--- one number more
-range_more : (a n : ℕ) → range_with_len a (n + 1) ≡ range_with_len a n ++ (a + n) ∷ []
-range_more a zero = let e : a ≡ a + 0 = omega arith in ap (λ k. k ∷ []) e
-range_more a (suc n) =
-    let e : (a + 1) + n ≡ a + suc n = omega arith in
-    let rest : range_with_len (a + 1) (n + 1) ≡ range_with_len (a + 1) n ++ (a + suc n) ∷ [] =
-    range_more (a + 1) n ∙ ap (λ k. range_with_len (a + 1) n ++ k ∷ []) e in
-    let next : suc n + 1 ≡ suc (n + 1) = omega arith in
-    ap (range_with_len a) next ∙ ap (λ xs. a ∷ xs) rest
-
-pub below_more : (n : ℕ) → range_with_len 0 (n + 1) ≡ range_with_len 0 n ++ n ∷ []
-below_more n = range_more 0 n ∙ ap (λ k. range_with_len 0 n ++ k ∷ []) (zero-add n)
-
-at_length : {X : Type 0} (xs : List X) (y : X) (ys : List X) → slice_get (xs ++ y ∷ ys) (length xs) ≡ Some y
-at_length [] y ys = refl
-at_length (x ∷ xs) y ys = at_length xs y ys
 
 -- all that stand behind a front are chosen by their numbers
 chosen_behind : {X : Type 0} (xs ys : List X) (a : ℕ) → a ≡ length xs → chosen (xs ++ ys) (range_with_len a (length ys)) ≡ ys

@@ -7,10 +7,10 @@ use Rattle.std.proofs.lemmas.Bool.{and_parts, leb-true}
 use Rattle.sx_spec_kinds.specs.declared.Kind.{Kind}
 use Rattle.sx_spec_kinds.specs.declared.Kind.TheVariants.{Func, Lcp, Lcp2, Hollow, HollowDist, Zfast}
 use Rattle.sx_spec_strings.specs.First.{first_failing}
+use Rattle.sx_spec_strings.proofs.Lists.{all_true}
 use Rattle.sx_spec.specs.Kinds.{uses_method, uses_buckets, uses_handles}
 use Rattle.sx_spec.specs.Layout.{Dump, Header, Section, dump_with, header_of, kinds as all_kinds, magic, layout, opened, section_words, sections_in, slots, u32_max}
 use Rattle.sx_spec.proofs.Reading.{all_dropped, header_back, sections_back}
-use Rattle.sx_static.proofs.FunctionSections.{all_true}
 use Rattle.sx_spec_program.specs.Offer.{Offer, opened_by}
 use Rattle.sx_sections.specs.Headers.{file_checks}
 use Rattle.sx_sections.specs.Offers.{checks_where, is_offered, offered_checks}

@@ -6,12 +6,12 @@ use Rattle.std.proofs.lemmas.Bool.{and_parts, eqb-true, leb-true}
 use Rattle.std.proofs.lemmas.List.{drop-drop, length-map, map-append}
 use Rattle.std.proofs.lemmas.List.FromFn.{length-range_with_len}
 use Rattle.sx_spec_strings.specs.First.{first_failing}
+use Rattle.sx_spec_strings.proofs.Lists.{all_true}
 use Rattle.sx_spec.specs.Fields.{fields, ones_of, upper_bits, words_number, low_width}
 use Rattle.sx_spec.specs.Layout.{Header, Section, SectionRule as RuleOf, function_of, list_of, sums_of, corrections_of, function_checks, list_checks, last_section, section_checks, section_count, section_of, section_size, section_width, sections_in, slots, sums_section}
 use Rattle.sx_ef.specs.Parts.{low_part, upper_part}
 use Rattle.sx_ef.proofs.Numbers.{length-sums}
 use Rattle.sx_fields.proofs.Places.{length-fields}
-use Rattle.sx_static.proofs.FunctionSections.{all_true}
 use Rattle.sx_sections.specs.declared.place.Place.{Place}
 use Rattle.sx_sections.specs.declared.place.Place.TheVariants.{Function, List as ListPlace, Sums, Corrections}
 use Rattle.sx_sections.specs.declared.rule.SectionRule.{SectionRule}

@@ -14,7 +14,7 @@ use Rattle.sx_spec.specs.Chunks.{chunk_bits, chunk_size}
 enough : (pairs c : ℕ) → pairs ≤ 1024 * 2 ^ c → nat_le pairs (chunk_size * 2 ^ c) ≡ true
 enough pairs c le = le-leb pairs (1024 * 2 ^ c) le
 
-chunk_bits_le : (pairs c : ℕ) → pairs ≤ 1024 * 2 ^ c → chunk_bits pairs ≤ c
+pub chunk_bits_le : (pairs c : ℕ) → pairs ≤ 1024 * 2 ^ c → chunk_bits pairs ≤ c
 chunk_bits_le pairs c le = least_from_le (λ k. nat_le pairs (chunk_size * 2 ^ k)) (binary_digits pairs) 0 c (omega arith) (enough pairs c le)
 
 chunk_bits_hold : (pairs : ℕ) → pairs ≤ 1024 * 2 ^ chunk_bits pairs

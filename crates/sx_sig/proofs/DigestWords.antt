@@ -3,7 +3,7 @@ use Rattle.std.proofs.Common.{◌≡◌, ℕ, zero, suc, ◌+◌, ◌-◌, ◌*�
 use Rattle.std.specs.Prelude.{◌==◌, min, replicate}
 use Rattle.std.specs.Int.{bit_at}
 use Rattle.std.proofs.lemmas.Bool.{cases_lt}
-use Rattle.std.proofs.lemmas.List.{length-append, length-take, length-drop, length-replicate, get_or-take, get_or-drop, get_or_append_left, get_or-append_right, get_or-replicate, take_all}
+use Rattle.std.proofs.lemmas.List.{length-take, length-drop, get_or-take, get_or-drop, get_or_append_left, get_or-append_right, get_or-replicate, take_all}
 use Rattle.std.proofs.lemmas.Nat.{mul-add-lt, pow-add}
 use Rattle.std.proofs.lemmas.Nat.Bits.{bit_at_cat_low, bit_at_cat_high}
 use Rattle.std.proofs.Math.Nat.{pow-zero}
@@ -11,7 +11,7 @@ use Rattle.byteorder.specs.Endian.{big_from, big_number}
 use Rattle.sx_spec_strings.specs.Bits.{Bits, bits_number, bytes_bits}
 use Rattle.sx_spec.specs.Signature.{kept_bits, signature_from}
 use Rattle.sx_spec.proofs.Digits.{power_of_power}
-use Rattle.sx_spec.proofs.Signatures.{length-bytes_bits}
+use Rattle.sx_spec.proofs.Signatures.{length-bytes_bits, length-kept}
 use Rattle.sx_bits.proofs.LineBits.{bit_of_bytes}
 use Rattle.sx_bits.proofs.NumberBits.{bits_number_is, cleared, cleared_le, bit_cleared, bit_kept}
 
@@ -63,13 +63,6 @@ bit_of_word digest m j small few lt =
     ∙ ap (λ b. b == 1) (sym (bit_of_big rest rest_small 0 8 (63 - j) (omega arith)))
 
 -- ---- the bits that are kept
-
-length-kept : (keep : ℕ) (bits : Bits) → length (kept_bits keep bits) ≡ length bits
-length-kept keep bits =
-    let a = length-append (take keep bits) (replicate (length bits - keep) false) in
-    let b = length-take keep bits in
-    let c = length-replicate (length bits - keep) false in
-    omega arith
 
 kept_inside : (keep : ℕ) (bits : Bits) (p : ℕ) → p < keep → p < length bits → get_or (kept_bits keep bits) p false ≡ get_or bits p false
 kept_inside keep bits p lt inside =

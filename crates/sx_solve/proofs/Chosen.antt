@@ -1,17 +1,16 @@
 -- The equations of a set, as the ones whose numbers are chosen.
-use Rattle.std.proofs.Common.{◌≡◌, ◌≢◌, ℕ, zero, suc, ◌+◌, ◌*◌, ◌%◌, ◌<◌, ◌≤◌, Bool, true, false, cond, List, [], ◌∷◌, ◌++◌, length, map, refl, sym, ap, subst, ◌∙◌, arith, Some, inl, inr, ◌⊎◌, zero-add}
-use Rattle.std.specs.Prelude.{◌==◌, slice_get, fold, bit_xor, filter}
+use Rattle.std.proofs.Common.{◌≡◌, ◌≢◌, ℕ, zero, suc, ◌+◌, ◌*◌, ◌%◌, ◌<◌, ◌≤◌, Bool, true, false, cond, List, [], ◌∷◌, ◌++◌, length, map, refl, sym, ap, subst, ◌∙◌, arith, Some, inl, inr, ◌⊎◌}
+use Rattle.std.specs.Prelude.{◌==◌, slice_get, bit_xor, filter}
 use Rattle.std.specs.List.{AllByRecursion, cons_option, range_with_len}
-use Rattle.std.specs.List.Sorted.{IsStrictlyIncreasing}
-use Rattle.std.specs.Int.Bits.{xor_assoc, xor_zero_r}
 use Rattle.std.proofs.lemmas.Bool.Decides.{Decides-eqb}
 use Rattle.std.proofs.lemmas.List.{append_assoc, length_push}
-use Rattle.std.proofs.lemmas.List.FromFn.{length-range_with_len, get_or-range_with_len}
 use Rattle.std.proofs.lemmas.List.Elements.{filter-append}
 use Rattle.std.proofs.lemmas.List.Kept.{IsStrictlyIncreasing-filter}
 use Rattle.std.proofs.lemmas.List.Sums.{sum_by-append}
+use Rattle.sx_spec_strings.proofs.Lists.{at_length, below_more, range_rising}
 use Rattle.sx_spec.specs.declared.Equation.{Equation}
 use Rattle.sx_spec.specs.Systems.{unknowns, vertices, count_of, chosen, all_unknowns, xor_all, IsSum}
+use Rattle.sx_spec.proofs.Sums.{fold_xor}
 use Rattle.sx_solve.specs.declared.rows.Row.{Row}
 use Rattle.sx_solve.specs.Rows.{bit, xor_by, times_by, values, IsContradictory}
 use Rattle.sx_solve.proofs.Marks.{mark_cases}
@@ -21,10 +20,6 @@ use Rattle.sx_solve.proofs.WordBits.{bit_small}
 picked : {X : Type 0} → (ℕ → ℕ) → ℕ → List X → List X
 picked marks i [] = []
 picked marks i (x ∷ later) = cond (marks i == 1) (x ∷ picked marks (i + 1) later) (picked marks (i + 1) later)
-
-at_length : {X : Type 0} (xs : List X) (y : X) (ys : List X) → slice_get (xs ++ y ∷ ys) (length xs) ≡ Some y
-at_length [] y ys = refl
-at_length (x ∷ xs) y ys = at_length xs y ys
 
 chosen_behind : {X : Type 0} (marks : ℕ → ℕ) (xs ys : List X) (a : ℕ) → a ≡ length xs → chosen (xs ++ ys) (filter (λ i. marks i == 1) (range_with_len a (length ys))) ≡ picked marks a ys
 unfolding picked
@@ -43,10 +38,6 @@ chosen_behind {X} marks xs (y ∷ ys) a front =
     ]
 
 -- ---- sums over what is picked
-
-fold_xor : (a : ℕ) (xs : List ℕ) → fold bit_xor a xs ≡ bit_xor a (xor_all xs)
-fold_xor a [] = sym (xor_zero_r a)
-fold_xor a (x ∷ xs) = fold_xor (bit_xor a x) xs ∙ xor_assoc a x (xor_all xs) ∙ ap (bit_xor a) (sym (fold_xor x xs))
 
 -- a mark of 1, or none
 mark_is : (m : ℕ) → m < 2 → ((m ≡ 1) × ((m == 1) ≡ true)) ⊎ ((m ≡ 0) × ((m == 1) ≡ false))
@@ -97,28 +88,12 @@ picked_times marks small i (q ∷ qs) v =
 
 -- ---- the numbers that are marked
 
-range_more : (a n : ℕ) → range_with_len a (n + 1) ≡ range_with_len a n ++ (a + n) ∷ []
-range_more a zero = let e : a ≡ a + 0 = omega arith in ap (λ k. k ∷ []) e
-range_more a (suc n) =
-    let e : (a + 1) + n ≡ a + suc n = omega arith in
-    let rest : range_with_len (a + 1) (n + 1) ≡ range_with_len (a + 1) n ++ (a + suc n) ∷ [] =
-    range_more (a + 1) n ∙ ap (λ k. range_with_len (a + 1) n ++ k ∷ []) e in
-    let next : suc n + 1 ≡ suc (n + 1) = omega arith in
-    ap (range_with_len a) next ∙ ap (λ xs. a ∷ xs) rest
-
 pub marked_more : (p : ℕ → Bool) (n : ℕ) → filter p (range_with_len 0 (n + 1)) ≡ filter p (range_with_len 0 n) ++ cond (p n) (n ∷ []) []
 marked_more p n =
-    ap (filter p) (range_more 0 n ∙ ap (λ k. range_with_len 0 n ++ k ∷ []) (zero-add n))
+    ap (filter p) (below_more n)
     ∙ filter-append p (range_with_len 0 n) (n ∷ [])
 
 -- ---- marks without unknowns are a sum
-
-range_rising : (a n : ℕ) → IsStrictlyIncreasing (range_with_len a n)
-range_rising a n k h =
-    let size = length-range_with_len a n in
-    let here = get_or-range_with_len a n k 0 (omega arith) in
-    let next = get_or-range_with_len a n (k + 1) 0 (omega arith) in
-    omega arith
 
 filtered_within : (p : ℕ → Bool) (a n m : ℕ) → a + n ≤ m → AllByRecursion (λ i. i < m) (filter p (range_with_len a n))
 filtered_within p a zero m fits = tt

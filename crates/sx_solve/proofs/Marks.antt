@@ -9,6 +9,7 @@ use Rattle.std.proofs.Math.Pow.{pow_pos}
 use Rattle.sx_spec.specs.declared.Equation.{Equation}
 use Rattle.sx_spec.specs.Systems.{unknowns, vertices, count_of}
 use Rattle.sx_spec.proofs.Counts.{front_cases}
+use Rattle.sx_spec.proofs.Sums.{xor_swap}
 use Rattle.sx_solve.specs.Solving.{IsEquationWithin}
 use Rattle.sx_solve.specs.Rows.{xor_by, times_by}
 
@@ -24,9 +25,6 @@ one_times : (t : ℕ) → 1 * t ≡ t
 one_times t = omega arith
 
 -- ---- xors
-
-pub xor_swap : (a b c : ℕ) → bit_xor a (bit_xor b c) ≡ bit_xor b (bit_xor a c)
-xor_swap a b c = sym (xor_assoc a b c) ∙ ap (λ z. bit_xor z c) (xor_comm a b) ∙ xor_assoc b a c
 
 xor_four : (a b x y : ℕ) → bit_xor (bit_xor a b) (bit_xor x y) ≡ bit_xor (bit_xor a x) (bit_xor b y)
 xor_four a b x y = xor_assoc a b (bit_xor x y) ∙ ap (bit_xor a) (xor_swap b x y) ∙ sym (xor_assoc a x (bit_xor b y))

@@ -5,11 +5,11 @@ use Rattle.std.specs.List.{AllByRecursion, cons_option}
 use Rattle.std.proofs.lemmas.Bool.Decides.{Decides-eqb}
 use Rattle.std.proofs.lemmas.List.{drop_more}
 use Rattle.std.proofs.lemmas.List.Sums.{sum_by-cons}
-use Rattle.std.proofs.lemmas.Option.{slice_get-get_or}
+use Rattle.std.proofs.lemmas.Option.{slice_get-get_or, slice_get_within}
+use Rattle.std.proofs.lemmas.Bool.{or_parts}
 use Rattle.sx_spec.specs.declared.Edge.{Edge}
 use Rattle.sx_spec.specs.Systems.{chosen, degree, has_vertex, cells_at}
 use Rattle.sx_spec.proofs.Counts.{all_counted, contains_counted}
-use Rattle.sx_spec.proofs.Witnesses.{below_length}
 use Rattle.sx_peel.specs.declared.Taken.{Taken}
 use Rattle.sx_peel.specs.Peeling.{vertex_in, taken_edges, AreFree, IsTakenOrder}
 use Rattle.sx_static.specs.Solving.{IsMet, AreMet}
@@ -28,7 +28,7 @@ free_at edges order i d inside free = subst (AreFree edges) (drop_more order i d
 pub some_below : {X : Type 0} (P : X → Type 0) (xs : List X) (k : ℕ) → IsSomeAnd (slice_get xs k) P → k < length xs
 some_below P xs k h = elim (slice_get xs k) as (λ o. slice_get xs k ≡ o → IsSomeAnd o P → k < length xs) [
   | None ↦ λ at none. absurd none
-  | Some x ↦ λ at some. below_length xs k x at
+  | Some x ↦ λ at some. slice_get_within xs k x at
 ] refl h
 
 -- the number of an edge that was taken is in range
@@ -40,18 +40,14 @@ taken_below edges order i d inside free =
 
 -- ---- edges off a vertex
 
-or_false : (p q : Bool) → (p || q) ≡ false → (p ≡ false) × (q ≡ false)
-or_false true q h = absurd cc
-or_false false q h = (refl, h)
-
 differs : (m n : ℕ) → (m == n) ≡ false → m ≢ n
 differs m n h same = absurd (let t : (m == n) ≡ true = (Decides-eqb m n).1 same in cc)
 
 same_cells : (cells changed : List ℕ) (v : ℕ) (e : Edge) → ((w : ℕ) → w ≢ v → slice_index changed w ≡ slice_index cells w)
     → has_vertex v e ≡ false → cells_at changed e ≡ cells_at cells e
 same_cells cells changed v e others off =
-    let (a, rest) = or_false (e.a == v) (e.b == v || e.c == v) off in
-    let (b, c) = or_false (e.b == v) (e.c == v) rest in
+    let (a, rest) = or_parts (e.a == v) (e.b == v || e.c == v) off in
+    let (b, c) = or_parts (e.b == v) (e.c == v) rest in
     let at_a = others e.a (differs e.a v a) in
     let at_b = others e.b (differs e.b v b) in
     let at_c = others e.c (differs e.c v c) in

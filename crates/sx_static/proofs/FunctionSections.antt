@@ -6,6 +6,7 @@ use Rattle.std.specs.List.{AllByRecursion}
 use Rattle.std.proofs.lemmas.Bool.{and_parts, leb-true, le-leb, lt-leb}
 use Rattle.std.proofs.lemmas.List.{take_rest, drop-drop, length-drop, length-take-le}
 use Rattle.sx_spec_strings.specs.First.{first_failing}
+use Rattle.sx_spec_strings.proofs.Lists.{all_true}
 use Rattle.sx_spec.specs.Chunks.{chunk_count}
 use Rattle.sx_spec.specs.Fields.{fields, is_zero_after, words_for}
 use Rattle.sx_spec.specs.Layout.{after_table, cell_bits, cell_words, function_checks, function_of, function_section, function_table, is_table, section_of, section_size, table_cells, table_chunks, table_start}
@@ -26,12 +27,6 @@ fails_after [] later n true all bad = absurd cc
 fails_after [] later n false all bad = refl
 fails_after ((m, true) ∷ passed) later n test all bad = fails_after passed later n test all.1 bad
 fails_after ((m, false) ∷ passed) later n test all bad = absurd (let e = all.0 in cc)
-
--- where no check fails, each is true
-pub all_true : (rows : List (ℕ × Bool)) → first_failing rows ≡ None → AllTrue rows
-all_true [] none = tt
-all_true ((n, true) ∷ rows) none = (refl, all_true rows none)
-all_true ((n, false) ∷ rows) none = absurd cc
 
 -- ---- the checks by what is read
 

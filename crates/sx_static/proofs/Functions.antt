@@ -1,17 +1,19 @@
 -- The chunks that were built are the function, and a chunk for which no try works is the cause.
-use Rattle.std.proofs.Common.{◌≡◌, ℕ, zero, suc, ◌+◌, ◌-◌, ◌*◌, ◌/◌, ◌^◌, ◌<◌, ◌≤◌, List, [], ◌∷◌, ◌++◌, length, map, take, drop, refl, sym, ap, subst, ◌∙◌, arith, zero-add, add-zero}
-use Rattle.std.specs.Prelude.{All, slice_index, flat_map, bit_xor}
+use Rattle.std.proofs.Common.{◌≡◌, ℕ, zero, suc, ◌+◌, ◌*◌, ◌^◌, ◌<◌, ◌≤◌, List, [], ◌∷◌, ◌++◌, length, map, take, drop, sym, ap, subst, ◌∙◌, arith, zero-add, add-zero}
+use Rattle.std.specs.Prelude.{All, flat_map, bit_xor}
 use Rattle.std.specs.List.{AllByRecursion, AllZip, range_with_len}
 use Rattle.std.proofs.lemmas.List.{take_all, drop_at, drop-drop, get_or_append_left}
 use Rattle.std.proofs.lemmas.List.Elements.{recursion_from_All}
+use Rattle.sx_spec_strings.proofs.Lists.{along_range, zip_second}
 use Rattle.sx_spec.specs.declared.Edge.{Edge}
 use Rattle.sx_spec.specs.declared.Equation.{Equation}
 use Rattle.sx_spec.specs.declared.Method.{Method}
 use Rattle.sx_spec.specs.declared.Signature.{Signature}
 use Rattle.sx_spec.specs.Chunks.{chunk_bits, chunk_count, segment}
-use Rattle.sx_spec.specs.Layout.{table_words, table_chunks, table_start, table_try, neighbours}
+use Rattle.sx_spec.specs.Layout.{table_words, table_chunks}
 use Rattle.sx_spec.specs.StaticFunction.{Entry, Chunk, Function, signatures, AllDiffer, IsWitness, IsStuck, IsBuiltChunk, IsBuiltFunction, SomeTryWorks, cell_count, cells_from, equations}
 use Rattle.sx_spec.specs.Systems.{chosen, Solves, cells_at, unknowns}
+use Rattle.sx_spec.proofs.Sections.{cell_count-cons, chunks_again}
 use Rattle.sx_solve.specs.Solving.{IsEquationWithin}
 use Rattle.sx_sig.specs.Grouping.{chunk_numbers}
 use Rattle.sx_static.specs.Answer.{entries_of, witness_numbers, IsWitnessOf, IsDone}
@@ -20,8 +22,8 @@ use Rattle.sx_static.specs.Tries.{IsFailure}
 use Rattle.sx_static.specs.declared.FuncBuf.{FuncBuf}
 use Rattle.sx_static.specs.declared.Witness.{Witness}
 use Rattle.sx_static.proofs.Entries.{signatures_of_entries, length_of_entries}
-use Rattle.sx_static.proofs.Solutions.{along_range, zip_mapped, zip_each}
-use Rattle.sx_static.proofs.Wholes.{cell_count-cons, failed}
+use Rattle.sx_static.proofs.Solutions.{zip_mapped}
+use Rattle.sx_static.proofs.Wholes.{failed}
 
 -- ---- the table
 
@@ -31,29 +33,6 @@ words_whole start (c ∷ cs) =
     let split = cell_count-cons c cs in
     let e : start + 3 * c.segment + cell_count cs ≡ start + cell_count (c ∷ cs) = omega arith in
     ap (λ ws. (start + c.try * 2 ^ 58) ∷ ws) (words_whole (start + 3 * c.segment) cs ∙ ap (λ n. starts_from (start + 3 * c.segment) cs ++ n ∷ []) e)
-
-first_start : (start : ℕ) (cs : List Chunk) → start < 2 ^ 58 → table_start (slice_index (table_words start cs) 0) ≡ start
-first_start start [] small = omega arith
-first_start start (c ∷ cs) small = omega arith
-
-neighbours-cons : (w start : ℕ) (cs : List Chunk) → neighbours (w ∷ table_words start cs) ≡ (w, slice_index (table_words start cs) 0) ∷ neighbours (table_words start cs)
-neighbours-cons w start [] = refl
-neighbours-cons w start (c ∷ cs) = refl
-
--- the table names the chunks
-chunks_again : (start : ℕ) (cs : List Chunk) → start + cell_count cs < 2 ^ 58 → table_chunks (table_words start cs) ≡ cs
-chunks_again start [] small = refl
-chunks_again start (c ∷ cs) small =
-    let split = cell_count-cons c cs in
-    let w = start + c.try * 2 ^ 58 in
-    let next = start + 3 * c.segment in
-    let here : table_start w ≡ start = omega arith in
-    let there : table_start (slice_index (table_words next cs) 0) ≡ next = first_start next cs (omega arith) in
-    let segment : (table_start (slice_index (table_words next cs) 0) - table_start w) / 3 ≡ c.segment = omega arith in
-    let try : table_try w ≡ c.try = omega arith in
-    let rest = chunks_again next cs (omega arith) in
-    ap (map (λ p. record { segment = (table_start p.1 - table_start p.0) / 3; try = table_try p.0 })) (neighbours-cons w next cs)
-    ∙ (λ i. record { segment = segment i; try = try i } ∷ rest i)
 
 -- ---- the cells
 
@@ -156,7 +135,7 @@ module _ (method : Method) (width : ℕ) (sigs : List Signature) (values : List 
         mapped (g ∷ found) all = (all.0, mapped found all.1)
 
         all_tried : (n : ℕ) (found : List Found) → AllZip (IsFound method (entries_of sigs values)) (range_with_len 0 n) found → AllByRecursion (λ c. c.try < 64) (chunks_of found)
-        all_tried n found each = mapped found (zip_each (IsFound method (entries_of sigs values)) (λ g. g.chunk.try < 64) (range_with_len 0 n) found (λ j g is. is.small) each)
+        all_tried n found each = mapped found (zip_second (IsFound method (entries_of sigs values)) (λ g. g.chunk.try < 64) (range_with_len 0 n) found (λ j g is. is.small) each)
 
   -- ---- no try works
 
@@ -173,5 +152,5 @@ module _ (method : Method) (width : ℕ) (sigs : List Signature) (values : List 
                 subst (SomeTryWorks method 64 (entries_of sigs values)) (zero-add i) (g.chunk.try, is.small, is.try.works);
             each_try = zip_mapped Fails (λ t ns. IsWitness method (entries_of sigs values) j t ns) witness_numbers (range_with_len 0 64) witnesses (failed method sigs values same j numbers are) fail;
           },
-          zip_each Fails (IsWitnessOf method) (range_with_len 0 64) witnesses (λ t w failure. failure.kind) fail,
+          zip_second Fails (IsWitnessOf method) (range_with_len 0 64) witnesses (λ t w failure. failure.kind) fail,
         )

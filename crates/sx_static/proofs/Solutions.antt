@@ -1,7 +1,7 @@
 -- What peeling and solving say of a try.
-use Rattle.std.proofs.Common.{◌≡◌, ℕ, zero, suc, ◌+◌, ◌*◌, ◌<◌, ◌^◌, List, [], ◌∷◌, ◌++◌, length, map, refl, sym, ap, subst, ◌∙◌, arith, add-one, add-zero, Option, Some, None}
-use Rattle.std.specs.Prelude.{All, slice_get, option_map}
-use Rattle.std.specs.List.{AllByRecursion, AllZip, range_with_len, cons_option}
+use Rattle.std.proofs.Common.{◌≡◌, ℕ, zero, suc, ◌+◌, ◌*◌, ◌<◌, ◌^◌, List, [], ◌∷◌, ◌++◌, length, map, sym, ap, subst, ◌∙◌, arith, add-one, add-zero}
+use Rattle.std.specs.Prelude.{All}
+use Rattle.std.specs.List.{AllByRecursion, AllZip, range_with_len}
 use Rattle.std.proofs.lemmas.List.{length-map}
 use Rattle.std.proofs.lemmas.List.Elements.{recursion_from_All, All-from_recursion}
 use Rattle.sx_spec.specs.declared.Edge.{Edge}
@@ -14,7 +14,7 @@ use Rattle.sx_spec.specs.StaticFunction.{entry_equation, CanBeBuilt}
 use Rattle.sx_spec.specs.Systems.{chosen, unknowns, IsIndexSet, IsPeelingOrder, IsCore, IsSum, IsContradiction, HasNoLeaf}
 use Rattle.sx_spec.proofs.Cores.{cores_refute_peeling}
 use Rattle.sx_spec.proofs.Sums.{sums_refute_solutions}
-use Rattle.sx_spec.proofs.Witnesses.{slice_get-map}
+use Rattle.sx_spec.proofs.Witnesses.{chosen-map}
 use Rattle.sx_peel.specs.declared.Taken.{Taken}
 use Rattle.sx_peel.specs.Peeling.{IsEdgeWithin, IsTakenOrder, taken_edges}
 use Rattle.sx_solve.specs.Solving.{IsEquationWithin, IsSolution}
@@ -24,17 +24,6 @@ use Rattle.sx_static.specs.Tries.{try_equations, AreCells, AreRefuting}
 use Rattle.sx_static.proofs.Entries.{edges_of_entries, solved_entries, within_edges, narrow_equations, length_of_entries}
 
 -- ---- chosen from a mapped list
-
-map-cons_option : {X Y : Type 0} (f : X → Y) (o : Option X) (xs : List X) → cons_option (option_map f o) (map f xs) ≡ map f (cons_option o xs)
-map-cons_option f None xs = refl
-map-cons_option f (Some x) xs = refl
-
-pub chosen-map : {X Y : Type 0} (f : X → Y) (xs : List X) (is : List ℕ) → chosen (map f xs) is ≡ map f (chosen xs is)
-chosen-map f xs [] = refl
-chosen-map f xs (i ∷ is) =
-    ap (λ o. cons_option o (chosen (map f xs) is)) (slice_get-map f xs i)
-    ∙ ap (λ ys. cons_option (option_map f (slice_get xs i)) ys) (chosen-map f xs is)
-    ∙ map-cons_option f (slice_get xs i) (chosen xs is)
 
 -- ---- one try
 
@@ -118,25 +107,9 @@ range_push {X} R a n xs x all here = rw (add-one n) (push a n xs all here)
         let e : a + suc n ≡ (a + 1) + n = omega arith in
         (all.0, push (a + 1) n xs all.1 (subst (λ k. R k x) e here))
 
--- what holds along a range of numbers holds at each
-pub along_range : {X : Type 0} (R : ℕ → X → Type 0) (a n : ℕ) (xs : List X) → AllZip R (range_with_len a n) xs → (i : ℕ) → i < n → (x : X) × R (a + i) x
-along_range R a zero xs all i h = absurd (omega arith)
-along_range R a (suc n) [] all i h = absurd all
-along_range R a (suc n) (x ∷ xs) all zero h = (x, subst (λ k. R k x) (sym (add-zero a)) all.0)
-along_range R a (suc n) (x ∷ xs) all (suc i) h =
-    let (y, holds) = along_range R (a + 1) n xs all.1 i (omega arith) in
-    let e : (a + 1) + i ≡ a + suc i = omega arith in
-    (y, subst (λ k. R k y) e holds)
-
 -- facts of two lists for a mapped one
 pub zip_mapped : {A X Y : Type 0} (R : A → X → Type 0) (S : A → Y → Type 0) (f : X → Y) (ns : List A) (xs : List X) → ((n : A) (x : X) → R n x → S n (f x)) → AllZip R ns xs → AllZip S ns (map f xs)
 zip_mapped R S f [] [] leads all = tt
 zip_mapped R S f [] (x ∷ xs) leads all = absurd all
 zip_mapped R S f (n ∷ ns) [] leads all = absurd all
 zip_mapped R S f (n ∷ ns) (x ∷ xs) leads all = (leads n x all.0, zip_mapped R S f ns xs leads all.1)
-
-pub zip_each : {A X : Type 0} (R : A → X → Type 0) (P : X → Type 0) (ns : List A) (xs : List X) → ((n : A) (x : X) → R n x → P x) → AllZip R ns xs → AllByRecursion P xs
-zip_each R P [] [] leads all = tt
-zip_each R P [] (x ∷ xs) leads all = absurd all
-zip_each R P (n ∷ ns) [] leads all = absurd all
-zip_each R P (n ∷ ns) (x ∷ xs) leads all = (leads n x all.0, zip_each R P ns xs leads all.1)

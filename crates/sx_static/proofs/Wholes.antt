@@ -7,7 +7,7 @@ use Rattle.std.proofs.lemmas.List.{map_push, append-nil, length-map}
 use Rattle.std.proofs.lemmas.List.Concat.{flat_map-append}
 use Rattle.std.proofs.lemmas.List.Elements.{filter_passes, recursion_from_All, All-from_recursion}
 use Rattle.std.proofs.lemmas.List.FromFn.{length-map-range_with_len, get_or-map-range_with_len}
-use Rattle.std.proofs.lemmas.List.Sums.{sum_by-cons, sum_by_push}
+use Rattle.std.proofs.lemmas.List.Sums.{sum_by_push}
 use Rattle.sx_spec.specs.declared.Equation.{Equation}
 use Rattle.sx_spec.specs.declared.Method.{Method}
 use Rattle.sx_spec.specs.declared.Signature.{Signature}
@@ -15,6 +15,8 @@ use Rattle.sx_spec.specs.Chunks.{chunk_bits, segment}
 use Rattle.sx_spec.specs.StaticFunction.{Entry, Chunk, chunk_of_entry, chunk_entries, chunk_segment, entry_equation, equations, CanBeBuilt, CannotBeBuilt, IsWitness, cell_count}
 use Rattle.sx_spec.specs.Systems.{chosen, IsIndexSet, Solves}
 use Rattle.sx_spec.proofs.Counts.{chosen_all, all_at}
+use Rattle.sx_spec.proofs.Witnesses.{chosen-map}
+use Rattle.sx_spec.proofs.Sections.{cell_count-cons}
 use Rattle.sx_solve.specs.Solving.{IsEquationWithin}
 use Rattle.sx_sig.specs.Grouping.{chunk_numbers}
 use Rattle.sx_static.specs.Answer.{entries_of, witness_numbers}
@@ -24,7 +26,7 @@ use Rattle.sx_static.specs.declared.Witness.{Witness}
 use Rattle.sx_static.proofs.Counting.{lists_of, list_at}
 use Rattle.sx_static.proofs.Entries.{length_of_entries}
 use Rattle.sx_static.proofs.Numbers.{numbers_within, numbers_rise, chosen_chunk, chosen_entries, length_chosen, chosen_of_numbers, set_of_numbers}
-use Rattle.sx_static.proofs.Solutions.{chosen-map, range_push}
+use Rattle.sx_static.proofs.Solutions.{range_push}
 
 -- ---- one chunk
 
@@ -132,9 +134,6 @@ module _ (method : Method) (sigs : List Signature) (values : List ℕ) (same : l
 
 cell_count_push : (cs : List Chunk) (c : Chunk) → cell_count (cs ++ c ∷ []) ≡ cell_count cs + 3 * c.segment
 cell_count_push cs c = sum_by_push (λ (d : Chunk). 3 * d.segment) cs c
-
-pub cell_count-cons : (c : Chunk) (cs : List Chunk) → cell_count (c ∷ cs) ≡ 3 * c.segment + cell_count cs
-cell_count-cons c cs = sum_by-cons (λ (d : Chunk). 3 * d.segment) c cs
 
 starts_push : (start : ℕ) (cs : List Chunk) (c : Chunk) → starts_from start (cs ++ c ∷ []) ≡ starts_from start cs ++ (start + cell_count cs + c.try * 2 ^ 58) ∷ []
 starts_push start [] c = let e : start + c.try * 2 ^ 58 ≡ start + 0 + c.try * 2 ^ 58 = omega arith in ap (λ n. n ∷ []) e

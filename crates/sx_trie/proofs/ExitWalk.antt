@@ -6,7 +6,7 @@ use Rattle.std.proofs.lemmas.Bool.{cases_Bool, cases_lt, cases_eq, false_from_ne
 use Rattle.std.proofs.lemmas.List.{length-take, length-drop, length-take-le, take_all, take-take, take-append-drop, drop-take}
 use Rattle.sx_spec_strings.specs.Bits.{Bits, AreKeyBits, bit_at, bits_cmp, bits_eq, begins_with, common_prefix, common_prefix_of, is_below, is_proper_prefix}
 use Rattle.sx_spec_strings.specs.Ordered.{IsIn, IsRising}
-use Rattle.sx_spec_strings.proofs.BitLaws.{begins_refl, begins_whole, common_of_prefix, begins_trans, begins_length, begins_shorter, begins_between, begins_both, begins_not_below, below_asym, below_total, below_irrefl, common_begins_left, common_begins_right, common_longest, proper_parts, proper_from, whole_or_proper}
+use Rattle.sx_spec_strings.proofs.BitLaws.{begins_refl, begins_whole, common_of_prefix, begins_trans, begins_length, begins_shorter, begins_both, begins_not_below, below_total, below_irrefl, common_begins_left, common_begins_right, common_longest, proper_parts, proper_from}
 use Rattle.std.specs.declared.cmp.Ordering.{Ordering}
 use Rattle.std.specs.Ordering.{is_lt}
 use Rattle.sx_spec_strings.proofs.KeyBits.{tests_are_the_order}
@@ -14,12 +14,13 @@ use Rattle.sx_spec_strings.proofs.OrderedLaws.{rising_first, rising_rest}
 use Rattle.sx_spec_kinds.specs.Trie.{Place, inner, leaf, extents_of, under, name_len, place_of, exit_of}
 use Rattle.sx_spec_kinds.specs.Hollow.{Stand}
 use Rattle.sx_spec_kinds.proofs.NameLaws.{begins_take, take_of_begins, in_at, bits_same, bits_eq_refl, name_len_above, name_len_from}
-use Rattle.sx_spec_kinds.proofs.TrieLaws.{extents_rising, extents_trie, common_extent}
+use Rattle.sx_spec_kinds.proofs.TrieLaws.{extents_rising, extents_trie}
 use Rattle.sx_spec_kinds.proofs.CountLaws.{count_some, length-under, in_under, under_from}
 use Rattle.sx_spec_kinds.proofs.ChildLaws.{parts, begins_longer}
 use Rattle.sx_spec_kinds.proofs.LcpLaws.{begins_common_of, common_of_longest}
 use Rattle.sx_spec_kinds.proofs.HollowLaws.{IsFirst, StandsAt, stands_start, first_here, key_under, extents_under}
 use Rattle.sx_spec_kinds.proofs.ExactBlock.{all_at, some_at}
+use Rattle.sx_spec_kinds.proofs.ExitLaws.{all_or_none}
 use Rattle.sx_trie.proofs.Delimiters.{in_range, parted_prefix}
 use Rattle.sx_trie.proofs.Stands.{extent_at, left_at, at_child, under_at, on_child, Found}
 
@@ -90,27 +91,6 @@ module _ (ds : List Bits) (keys : AreKeyBits ds) (x : Bits) (s : Stand) (h : Sta
         let some = h.some in
         in_range ds keys name s.first inside (omega arith) (omega arith)
 
-    -- of the delimiters under the name all are below the string or none
-    all_or_none : (d g : Bits) → IsIn ds d → IsIn ds g → begins_with d name ≡ true → begins_with g name ≡ true → is_below d x ≡ true → is_below g x ≡ true
-    all_or_none d g i j d_p g_p less =
-        elim (cases_Bool (is_below g x)) [
-          | inl also ↦ also
-          | inr more ↦
-              let differ : d ≡ g → ⊥ = λ same. (let again : is_below g x ≡ true = rw same at less in cc) in
-              let m = common_prefix d g in
-              let there = common_extent ds d g keys i j differ in
-              let x_m = begins_between d x g m (below_asym d x less) more (common_begins_left d g) (common_begins_right d g) in
-              let long = begins_length m name (common_longest d g name d_p g_p) in
-              let size = long_name in
-              elim (whole_or_proper m x x_m) [
-                | inl same ↦
-                    let d_x : begins_with d x ≡ true = rw same at (common_begins_left d g) in
-                    let none = begins_not_below d x d_x in
-                    cc
-                | inr proper ↦ let above = name_len_above (extents_of ds) m x there proper in absurd (omega arith)
-              ]
-        ]
-
     right_is : s.first < length ds → list_all (λ d. is_below d x) (under ds name) ≡ is_below (get_or ds s.first []) x
     right_is inside =
         let first = get_or ds s.first [] in
@@ -122,7 +102,7 @@ module _ (ds : List Bits) (keys : AreKeyBits ds) (x : Bits) (s : Stand) (h : Sta
               let (d, i, not) = some_at (λ d. is_below d x) (under ds name) some in
               let (d_there, d_begins) = under_from ds name d i in
               let none : is_below first x ≡ false = false_from_ne_true (is_below first x) (λ less.
-              let also = all_or_none first d there d_there begins d_begins less in
+              let also = all_or_none ds keys x name (let size = long_name in omega arith) first d there d_there begins d_begins less in
               cc) in
               cc
         ]

@@ -2,15 +2,16 @@
 use Rattle.std.proofs.Common.{◌≡◌, ℕ, zero, suc, ◌+◌, ◌-◌, ◌*◌, ◌/◌, ◌%◌, ◌^◌, ◌<◌, ◌≤◌, refl, sym, ap, ◌∙◌, arith, inl, inr}
 use Rattle.std.specs.Prelude.{bit_xor}
 use Rattle.std.specs.Int.{bit_at}
-use Rattle.std.proofs.lemmas.Bool.{cases_lt, cases_eq, lt-ltb, le-ltb}
+use Rattle.std.proofs.lemmas.Bool.{cases_lt, cases_eq, le-ltb}
 use Rattle.std.proofs.lemmas.Nat.{shr-shr, xor_shr, xor_lt, leading_top, le-div, pow_pos, shr_split}
 use Rattle.std.proofs.lemmas.Nat.Bits.{bit_at_xor, bit_at-lt, bit_at-zero, same_from_bits}
 use Rattle.std.proofs.Math.Nat.{pow-zero, pow-succ', div-eq_of_lt, mod-eq_of_lt}
 use Rattle.std.proofs.Math.Pow.{pow_mono}
 use lib.Count.{count_leading_zeros}
 use Rattle.sx_spec_strings.specs.Numbers.{binary_digits}
-use Rattle.sx_spec_strings.proofs.NumberLaws.{digits_hold}
+use Rattle.sx_spec_strings.proofs.NumberLaws.{digits_hold, div_mono}
 use Rattle.sx_spec_kinds.specs.Fattest.{fattest_within, fattest}
+use Rattle.sx_spec_kinds.proofs.FattestLaws.{fattest_halves}
 
 -- ---- numbers without a difference
 
@@ -28,19 +29,7 @@ xor_self a = same_from_bits (bit_xor a a) 0 (λ i.
     let f = bit_at-zero i in
     omega arith)
 
--- ---- quotients
-
-quotients_rise : (a b p : ℕ) → 0 < p → a ≤ b → a / p ≤ b / p
-quotients_rise a b p some le = le-div (a / p) b p some (let e = below a p in omega arith)
-  where
-    below : (a p : ℕ) → a / p * p ≤ a
-    below a p = omega arith
-
 -- ---- halvings
-
-halves : (t a c : ℕ) → a / 2 < c / 2 → fattest_within (suc t) a c ≡ 2 * fattest_within t (a / 2) (c / 2)
-unfolding fattest_within
-halves t a c h = rw (lt-ltb (a / 2) (c / 2) h) refl
 
 alone : (t a c : ℕ) → c / 2 ≤ a / 2 → fattest_within t a c ≡ c
 unfolding fattest_within
@@ -66,11 +55,11 @@ halved (suc k) (suc t) a c le same less =
     let smaller : a / 2 < c / 2 =
     elim (cases_lt (a / 2) (c / 2)) [
       | inl lt ↦ lt
-      | inr ge ↦ let r = quotients_rise (c / 2) (a / 2) (2 ^ k) (pow_pos k) ge in absurd (omega arith)
+      | inr ge ↦ let r = div_mono (c / 2) (a / 2) (2 ^ k) (pow_pos k) ge in absurd (omega arith)
     ] in
     let rest = halved k t (a / 2) (c / 2) (omega arith) (ha' ∙ same ∙ sym hc') (omega arith) in
     let p = pow-succ' 2 k in
-    halves t a c smaller ∙ ap (λ m. 2 * m) rest ∙ doubled (c / 2 / 2 ^ k) (2 ^ k) ∙ ap (λ m. m * (2 * 2 ^ k)) hc ∙ ap (λ m. c / 2 ^ suc k * m) (sym p)
+    fattest_halves t a c smaller ∙ ap (λ m. 2 * m) rest ∙ doubled (c / 2 / 2 ^ k) (2 ^ k) ∙ ap (λ m. m * (2 * 2 ^ k)) hc ∙ ap (λ m. c / 2 ^ suc k * m) (sym p)
   where
     doubled : (q p : ℕ) → 2 * (q * p) ≡ q * (2 * p)
     doubled q p = omega arith
@@ -97,7 +86,7 @@ fattest_is a b low less small is =
     let p = pow-succ' 2 top in
     let same : a / 2 ^ suc top ≡ b / 2 ^ suc top =
     xor_none (a / 2 ^ suc top) (b / 2 ^ suc top) (sym (xor_shr a b (suc top)) ∙ div-eq_of_lt most) in
-    let rises = quotients_rise a b (2 ^ top) (pow_pos top) (omega arith) in
+    let rises = div_mono a b (2 ^ top) (pow_pos top) (omega arith) in
     let apart : a / 2 ^ top < b / 2 ^ top =
     elim (cases_eq (a / 2 ^ top) (b / 2 ^ top)) [
       | inl equal ↦

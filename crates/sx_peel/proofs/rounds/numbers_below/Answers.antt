@@ -1,4 +1,4 @@
-use Rattle.sx_peel.proofs.Numbers.{below_more}
+use Rattle.sx_spec_strings.proofs.Lists.{below_more}
 use Rattle.sx_peel.proofs.rounds.numbers_below.Goals as goal
 
 pub loop-number-preserved : goal.loop-number-preserved
