@@ -1,5 +1,7 @@
-use Rattle.std.proofs.Common.{ℕ, List, Err, refl, sym, ap, subst, ◌∙◌}
+use Rattle.std.proofs.Common.{◌≡◌, ℕ, ◌≤◌, List, Err, sym, ap, subst, ◌∙◌}
+use Rattle.sx_spec_kinds.specs.declared.Kind.{Kind}
 use Rattle.sx_spec_program.specs.Program.{sux_offer}
+use Rattle.sx_sections.specs.Offers.{is_offered}
 use Rattle.sx_dump.specs.Opening.{IsOpened}
 use Rattle.sx_dump.proofs.Openings.{opens}
 use Rattle.sx_dump.proofs.open.open_dump.Goals as goal
@@ -8,27 +10,48 @@ pub new-requires : goal.new-requires
 new-requires g c =
     let here = c.in-Ok.ensures in
     let is : IsOpened c.args.words.now c.in-Ok.opened =
-    record { header = here.header; bounded = here.bounded; kind = here.offered; signed = here.narrow; places = here.places; laid = here.laid } in
+    record {
+      header = here.header;
+      bounded = here.bounded;
+      kind = ap (λ (kinds : List Kind). is_offered kinds c.in-Ok.opened.header.plan.kind) (sym c.kinds.ensures) ∙ here.offered;
+      signed = subst (λ (n : ℕ). c.in-Ok.opened.header.plan.signed ≤ n) c.signed.ensures here.narrow;
+      places = here.places;
+      laid = here.laid;
+    } in
     subst (λ (words : List ℕ). IsOpened words c.in-Ok.opened) (sym c.requires.bank) is
 
 pub returns-in-Ok-clause-found : goal.returns-in-Ok-clause-found
 returns-in-Ok-clause-found g c =
     let here = c.in-Ok.ensures in
     let is : IsOpened c.args.words.now c.in-Ok.opened =
-    record { header = here.header; bounded = here.bounded; kind = here.offered; signed = here.narrow; places = here.places; laid = here.laid } in
+    record {
+      header = here.header;
+      bounded = here.bounded;
+      kind = ap (λ (kinds : List Kind). is_offered kinds c.in-Ok.opened.header.plan.kind) (sym c.kinds.ensures) ∙ here.offered;
+      signed = subst (λ (n : ℕ). c.in-Ok.opened.header.plan.signed ≤ n) c.signed.ensures here.narrow;
+      places = here.places;
+      laid = here.laid;
+    } in
     opens c.args.words.now c.in-Ok.opened is (g.B.WordBank.words_of c.new.result.bank) _
-    (ap g.B.WordBank.words_of c.new.ensures ∙ c.requires.bank) (here.found sux_offer refl refl)
+    (ap g.B.WordBank.words_of c.new.ensures ∙ c.requires.bank) (here.found sux_offer (sym c.kinds.ensures) (sym c.signed.ensures))
 
 pub returns-in-Ok-clause-opened : goal.returns-in-Ok-clause-opened
 returns-in-Ok-clause-opened g c = λ file held.
     let here = c.in-Ok.ensures in
     let is : IsOpened c.args.words.now c.in-Ok.opened =
-    record { header = here.header; bounded = here.bounded; kind = here.offered; signed = here.narrow; places = here.places; laid = here.laid } in
+    record {
+      header = here.header;
+      bounded = here.bounded;
+      kind = ap (λ (kinds : List Kind). is_offered kinds c.in-Ok.opened.header.plan.kind) (sym c.kinds.ensures) ∙ here.offered;
+      signed = subst (λ (n : ℕ). c.in-Ok.opened.header.plan.signed ≤ n) c.signed.ensures here.narrow;
+      places = here.places;
+      laid = here.laid;
+    } in
     opens c.args.words.now c.in-Ok.opened is (g.B.WordBank.words_of c.new.result.bank) _
-    (ap g.B.WordBank.words_of c.new.ensures ∙ c.requires.bank) (here.opened sux_offer refl refl file held)
+    (ap g.B.WordBank.words_of c.new.ensures ∙ c.requires.bank) (here.opened sux_offer (sym c.kinds.ensures) (sym c.signed.ensures) file held)
 
 pub returns-in-Err-clause-refused : goal.returns-in-Err-clause-refused
-returns-in-Err-clause-refused g c = c.in-Err.ensures.found sux_offer refl refl ∙ ap (λ (n : ℕ). Err n) (sym c.number.ensures)
+returns-in-Err-clause-refused g c = c.in-Err.ensures.found sux_offer (sym c.kinds.ensures) (sym c.signed.ensures) ∙ ap (λ (n : ℕ). Err n) (sym c.number.ensures)
 
 pub returns-in-Err-clause-fault : goal.returns-in-Err-clause-fault
-returns-in-Err-clause-fault g c = λ file held. c.in-Err.ensures.opened sux_offer refl refl file held ∙ ap (λ (n : ℕ). Err n) (sym c.number.ensures)
+returns-in-Err-clause-fault g c = λ file held. c.in-Err.ensures.opened sux_offer (sym c.kinds.ensures) (sym c.signed.ensures) file held ∙ ap (λ (n : ℕ). Err n) (sym c.number.ensures)
