@@ -11,8 +11,8 @@ use crate::keys::MAX_LINE;
 use std::alloc::{AllocError, Global};
 use sx_edge::line::{LineFault, LineReader, Step};
 use sx_edge::shelf::Shelf;
+use sx_numbers::number_of;
 use sx_text::messages::ValuesFault;
-use sx_words::numbers::number_of;
 
 /// Why no values were read.
 #[derive(Clone, Copy, Debug, PartialEq, Eq)]

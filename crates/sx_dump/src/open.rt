@@ -10,15 +10,9 @@ ghost use Rattle.sx_dump.specs.Opening.{IsFault, IsRefused, dump_in, opened_word
 use crate::dump::Dump;
 use std::alloc::Global;
 use sx_fields::bank::WordBank;
+use sx_kinds::offer;
 use sx_sections::open::open_offered;
-use sx_spec::Kind;
 use thiserror::Error;
-
-/// The kinds that are opened: those of the offer.
-const KINDS: [Kind; 1] = [Kind::Func];
-
-/// The greatest signed width that is opened: that of the offer.
-const SIGNED: u32 = 0;
 
 /// Why bytes are not opened as a dump.
 #[derive(Debug, Drop, Clone, Copy, PartialEq, Eq, Error)]
@@ -55,7 +49,7 @@ pub fn open_dump<B: WordBank + Copy>(
     ensures fault { IfErr result (λ fault. (file : List ℕ)
         → IsFile words.now bytes file → IsFault words.now file fault) }
 {
-    match open_offered(words, bytes, &KINDS, SIGNED) {
+    match open_offered(words, bytes, offer::kinds(), offer::signed()) {
         Ok(opened) => Ok(Dump::new(bank, opened)),
         Err(check) => Err(OpenFault::Malformed {
             check: check.number(),

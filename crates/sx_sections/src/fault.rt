@@ -7,9 +7,10 @@ ghost use Rattle.sx_sections.specs.Checks.{number_in};
 ghost use Rattle.sx_sections.specs.Headers.{IsHeader, file_checks};
 ghost use Rattle.sx_sections.specs.Offers.{checks_where, is_offered as is_offered_of, plan_checks};
 
+use crate::codes::{kind_code, kind_of};
 use crate::header::MAGIC;
-use crate::kinds::{kind_code, kind_of, uses_buckets, uses_handles, uses_method};
 use crate::number::Check;
+use sx_kinds::kinds::{uses_buckets, uses_handles, uses_method};
 use sx_spec::Kind;
 
 /// How many bytes a dump has at least: those of its front.

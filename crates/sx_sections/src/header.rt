@@ -4,7 +4,7 @@ ghost use Rattle.std.specs.Prelude.{◌≡◌, ◌∷◌};
 ghost use Rattle.sx_spec.specs.Layout.{header_of, header_words, magic};
 ghost use Rattle.sx_sections.specs.Headers.{IsBounded, IsHeader, header_as};
 
-use crate::kinds::{kind_code, kind_of, method_code, method_of};
+use crate::codes::{kind_code, kind_of, method_code, method_of};
 use sx_spec::{Kind, Method, Plan};
 
 /// The first word of a dump: the bytes `SUXDUMP1`.

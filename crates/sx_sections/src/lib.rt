@@ -2,11 +2,11 @@
 #![tactic(auto)]
 
 pub mod check;
+pub mod codes;
 pub mod corrections;
 pub mod counts;
 pub mod fault;
 pub mod header;
-pub mod kinds;
 pub mod lines;
 pub mod name;
 pub mod number;

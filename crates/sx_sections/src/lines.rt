@@ -6,10 +6,10 @@ ghost use Rattle.sx_sections.specs.Lines as lines;
 ghost use Rattle.sx_sections.specs.Names.{name_text};
 
 use crate::header::Header;
-use crate::kinds::{kind_text, method_text};
 use crate::name::SectionName;
 use arrayvec::ArrayString;
 use itoa::Buffer;
+use sx_kinds::kinds::{kind_word, method_word};
 use sx_spec::Signature;
 
 /// Text that is held before it is written.
@@ -69,8 +69,8 @@ pub fn put_header(page: &mut Page, header: &Header)
 {
     let plan = &header.plan;
     put_words(page, "layout", "1");
-    put_words(page, "kind", kind_text(plan.kind));
-    put_words(page, "method", method_text(plan.method));
+    put_words(page, "kind", kind_word(plan.kind));
+    put_words(page, "method", method_word(plan.method));
     put_number_line(page, "keys", u64::from(header.keys));
     put_number_line(page, "seed", header.seed);
     put_number_line(page, "sig-bits", u64::from(plan.sig_bits));

@@ -1,6 +1,5 @@
 //! The texts of one line on standard output and on standard error.
 ghost use Rattle.std.specs.Prelude.{◌≡◌, ◌++◌, ◌∷◌, [], IfOk, OnOk, codes, decimal};
-ghost use Rattle.sx_spec.specs.Command.{option_word};
 ghost use Rattle.sx_spec.specs.Keys.{KeyFault};
 ghost use Rattle.sx_spec.specs.Kinds.{kind_word};
 ghost use Rattle.sx_spec.specs.Messages.{message, usage_text, key_text, values_text, check_text, no_dump_text};
@@ -9,7 +8,8 @@ ghost use Rattle.sx_text.specs.Reasons.{counts_text, values_fault_of};
 
 use itoa::Buffer;
 use std::alloc::{AllocError, Global};
-use sx_sections::kinds::kind_text;
+use sx_kinds::kinds::kind_word;
+use sx_kinds::options::option_word;
 use sx_spec::{Kind, OptionName, Rule};
 
 /// Why a line is no key.
@@ -59,21 +59,6 @@ fn numbered_text(alloc: Global, place: &str, number: u64, told: &str) -> Result<
 
 // ---- usage
 
-/// The word for an option.
-fn option_word(name: OptionName) -> &'static str
-    ensures { result.now ≡ option_word name }
-{
-    match name {
-        OptionName::Seeds => "--seeds",
-        OptionName::Method => "--method",
-        OptionName::LogBucket => "--log-bucket",
-        OptionName::SigBits => "--sig-bits",
-        OptionName::HandleBits => "--handle-bits",
-        OptionName::Signed => "--signed",
-        OptionName::Values => "--values",
-    }
-}
-
 /// What is told of words, in three pieces.
 fn usage_pieces(
     alloc: Global,
@@ -107,7 +92,7 @@ pub fn usage_message(alloc: Global, rule: Rule) -> Result<Vec<u8>, AllocError>
             alloc,
             option_word(name),
             " does not go with ",
-            kind_text(kind),
+            kind_word(kind),
         ),
         Rule::SignedAndValues => {
             usage_pieces(alloc, "--signed", " does not go with ", "--values")
@@ -213,7 +198,7 @@ pub fn opened_text(alloc: Global, kind: Kind, keys: u64, words: u64) -> Result<V
     ensures { IfOk result (λ text. text.items
         ≡ kind_word kind ++ codes " keys " ++ decimal keys ++ codes " words " ++ decimal words ++ 10 ∷ []) }
 {
-    let mut text = Vec::from_slice(alloc, kind_text(kind).as_bytes())?;
+    let mut text = Vec::from_slice(alloc, kind_word(kind).as_bytes())?;
     text.extend_from_slice(b" keys ")?;
     push_number(&mut text, keys)?;
     text.extend_from_slice(b" words ")?;

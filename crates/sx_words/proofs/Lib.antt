@@ -1,5 +1,4 @@
 pub mod Equals
-pub mod Numerals
 pub mod Singles
 pub mod Splits
 pub mod Verdicts

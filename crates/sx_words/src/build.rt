@@ -10,15 +10,21 @@ ghost use Rattle.sx_words.specs.Tasks.{task_of};
 ghost use Rattle.sx_words.specs.Rules.{has_bad_value, is_unfit, offered_kind, kind_task, split_task};
 
 use crate::names::{OPTIONS, kind_named, method_named};
-use crate::numbers::number_of;
-use crate::offer::{KIND_NOT_OFFERED, OPTION_NOT_OFFERED, offers_kind, offers_option};
 use crate::options::{goes_with, is_value};
 use crate::seeds::{Seeds, seeds_listed};
 use crate::split::{WordSplit, split_words};
 use crate::{BuildTask, Name, Task};
 use std::alloc::{AllocError, Global};
 use sx_edge::words::WordList;
+use sx_kinds::offer::{offers_kind, offers_option};
+use sx_numbers::number_of;
 use sx_spec::{Kind, Method, OptionName, Plan, Rule};
+
+/// The rule that an option breaks which isn't offered.
+const OPTION_NOT_OFFERED: Rule = Rule::BadWords;
+
+/// The rule that a kind breaks which isn't offered.
+const KIND_NOT_OFFERED: Rule = Rule::UnknownKind;
 
 /// Whether the option is given with what is no value of it.
 fn has_bad_value(split: &WordSplit, name: OptionName) -> bool

@@ -5,8 +5,6 @@ ghost use Rattle.std.specs.Prelude.{◌≡◌, IfOk};
 
 mod build;
 mod names;
-pub mod numbers;
-mod offer;
 mod options;
 mod read;
 mod seeds;

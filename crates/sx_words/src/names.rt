@@ -1,11 +1,12 @@
-//! The words for commands, options, kinds and methods.
+//! What the words of a command line name: commands, options, kinds and methods.
 
 ghost use Rattle.std.specs.Prelude.{◌≡◌, find};
 ghost use Rattle.std.specs.Str.{bytes_eq};
 ghost use Rattle.sx_spec.specs.Command as usage;
-ghost use Rattle.sx_spec.specs.Kinds as kinds;
 ghost use Rattle.sx_words.specs.Commands.{command_word, commands};
 
+use sx_kinds::kinds::{kind_word, method_word};
+use sx_kinds::options::option_word;
 use sx_spec::{Kind, Method, OptionName};
 
 /// The commands.
@@ -44,6 +45,7 @@ const KINDS: [Kind; 6] = [
 /// All methods.
 const METHODS: [Method; 2] = [Method::Mwhc, Method::Gov3];
 
+/// The word for a command.
 fn command_word(command: Command) -> &'static str
     ensures { result.now ≡ command_word command }
 {
@@ -52,42 +54,6 @@ fn command_word(command: Command) -> &'static str
         Command::Query => "query",
         Command::Open => "open",
         Command::Dump => "dump",
-    }
-}
-
-fn option_word(name: OptionName) -> &'static str
-    ensures { result.now ≡ usage.option_word name }
-{
-    match name {
-        OptionName::Seeds => "--seeds",
-        OptionName::Method => "--method",
-        OptionName::LogBucket => "--log-bucket",
-        OptionName::SigBits => "--sig-bits",
-        OptionName::HandleBits => "--handle-bits",
-        OptionName::Signed => "--signed",
-        OptionName::Values => "--values",
-    }
-}
-
-fn kind_word(kind: Kind) -> &'static str
-    ensures { result.now ≡ kinds.kind_word kind }
-{
-    match kind {
-        Kind::Func => "func",
-        Kind::Lcp => "lcp",
-        Kind::Lcp2 => "lcp2",
-        Kind::Hollow => "hollow",
-        Kind::HollowDist => "hollowdist",
-        Kind::Zfast => "zfast",
-    }
-}
-
-fn method_word(method: Method) -> &'static str
-    ensures { result.now ≡ kinds.method_word method }
-{
-    match method {
-        Method::Mwhc => "mwhc",
-        Method::Gov3 => "gov3",
     }
 }
 
@@ -126,11 +92,4 @@ pub fn method_named(word: &str) -> Option<Method>
         .iter()
         .copied()
         .find(|method| method_word(*method) == word)
-}
-
-/// Whether the two are one option.
-pub fn same_option(x: OptionName, y: OptionName) -> bool
-    ensures { result ≡ usage.same_option x y }
-{
-    option_word(x) == option_word(y)
 }

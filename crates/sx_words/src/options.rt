@@ -2,41 +2,15 @@
 
 ghost use Rattle.std.specs.Prelude.{◌≡◌, ◌<◌, ◌^◌, is_some};
 ghost use Rattle.sx_spec.specs.Command as usage;
-ghost use Rattle.sx_spec.specs.Kinds as kinds;
 ghost use Rattle.sx_spec.specs.declared.OptionName.TheVariants.{Values};
 
 use crate::names::method_named;
-use crate::numbers::number_of;
 use crate::seeds::lists_seeds;
+use sx_kinds::kinds::{uses_buckets, uses_handles, uses_method};
+use sx_numbers::number_of;
 use sx_spec::{Kind, OptionName};
 
-fn uses_method(kind: Kind) -> bool
-    ensures { result ≡ kinds.uses_method kind }
-{
-    match kind {
-        Kind::Hollow => false,
-        Kind::Func | Kind::Lcp | Kind::Lcp2 | Kind::HollowDist | Kind::Zfast => true,
-    }
-}
-
-fn uses_buckets(kind: Kind) -> bool
-    ensures { result ≡ kinds.uses_buckets kind }
-{
-    match kind {
-        Kind::Func | Kind::Hollow => false,
-        Kind::Lcp | Kind::Lcp2 | Kind::HollowDist | Kind::Zfast => true,
-    }
-}
-
-fn uses_handles(kind: Kind) -> bool
-    ensures { result ≡ kinds.uses_handles kind }
-{
-    match kind {
-        Kind::Zfast => true,
-        Kind::Func | Kind::Lcp | Kind::Lcp2 | Kind::Hollow | Kind::HollowDist => false,
-    }
-}
-
+/// Whether the kind has values that may be given.
 fn has_values(kind: Kind) -> bool
     ensures { result ≡ usage.goes_with Values kind }
 {

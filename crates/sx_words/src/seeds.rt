@@ -5,9 +5,9 @@ ghost use Rattle.std.specs.List.{list_all};
 ghost use Rattle.sx_spec.specs.Command.{seeds_in, seed_texts, default_seeds};
 ghost use Rattle.sx_spec.specs.Values.{value_on};
 
-use crate::numbers::number_of;
 use std::alloc::{AllocError, Global};
 use std::marker::Model;
+use sx_numbers::number_of;
 
 /// How many seeds there are at most.
 const MOST: usize = 16;

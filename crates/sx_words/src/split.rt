@@ -8,10 +8,11 @@ ghost use Rattle.sx_words.specs.Pieces.{part, option_part, with_part, part_size}
 ghost use Rattle.sx_words.specs.Seen.{part_of};
 
 use crate::Name;
-use crate::names::{option_named, same_option};
+use crate::names::option_named;
 use std::alloc::{AllocError, Global};
 use std::marker::Model;
 use sx_edge::words::WordList;
+use sx_kinds::options::same_option;
 use sx_spec::OptionName;
 
 /// An option with its value.

@@ -1,6 +1,5 @@
 //! Words and the tasks that they are.
 
-use crate::numbers::number_of;
 use crate::{Method, OptionName, Rule, Task, read_words};
 use std::alloc::{AllocError, Global};
 use std::process::Abort;
@@ -188,23 +187,4 @@ fn names_of_dumps(rt: HostRuntime) -> Result<(), Fail> {
         _ => assert!(rt; false),
     }
     Ok(())
-}
-
-#[test]
-fn numbers(rt: HostRuntime) {
-    let cases: [(&str, Option<u64>); 10] = [
-        ("0", Some(0)),
-        ("10", Some(10)),
-        ("18446744073709551615", Some(u64::MAX)),
-        ("18446744073709551616", None),
-        ("99999999999999999999999999999999999999999", None),
-        ("", None),
-        ("00", None),
-        ("+1", None),
-        ("1 ", None),
-        ("1:", None),
-    ];
-    for (text, wanted) in cases {
-        assert_eq!(rt; number_of(text.as_bytes()), wanted, "{text}");
-    }
 }

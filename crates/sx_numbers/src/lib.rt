@@ -1,9 +1,13 @@
-//! Decimal numbers.
+//! Numbers of 64 bits that a text writes in decimal.
+#![tactic(auto)]
 
 ghost use Rattle.std.specs.Prelude.{◌≡◌, ◌&&◌, ◌^◌, Some, None, nat_lt, if◌then◌else◌};
 ghost use Rattle.std.specs.Char.{is_ascii_digit};
 ghost use Rattle.std.specs.List.{list_all};
 ghost use Rattle.sx_spec.specs.Values.{numeral_value, value_on};
+
+#[cfg(test)]
+mod tests;
 
 /// The number of 64 bits that digits write.
 fn digits_value(text: &[u8]) -> Option<u64>

@@ -1,8 +1,8 @@
 use Rattle.std.proofs.Common.{◌≡◌, drop}
 use Rattle.std.specs.Char.{is_ascii_digit}
 use Rattle.std.specs.List.{list_all}
-use Rattle.sx_words.proofs.Numerals.{digits_from}
-use Rattle.sx_words.proofs.numbers.digits_value.Given as goal
+use Rattle.sx_numbers.proofs.Numerals.{digits_from}
+use Rattle.sx_numbers.proofs.digits_value.Given as goal
 
 abbrev pub invariant-loop-byte : goal.invariant-loop-byte
 invariant-loop-byte l = record {
