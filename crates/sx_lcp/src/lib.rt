@@ -5,6 +5,7 @@ mod codes;
 mod lcp;
 mod lcp2;
 mod parts;
+mod reply;
 
 pub use codes::{TwoStep, two_step};
 pub use lcp::LcpView;
