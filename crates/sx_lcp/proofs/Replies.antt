@@ -47,19 +47,21 @@ module _ (seed keep : ℕ) where
       block_found (answered prefixes) len x block long (is ∙ ap (value_of prefixes) (signed_is (take len x) y sig same signs))
 
   -- the reply by one number for the offset and the length
-  pub lcp_is : (keys b : ℕ) (lengths prefixes : Function) (x : Bits) (sig : Signature) (number : ℕ) (block : Option ℕ) → sig ≡ signature seed keep (tagged None x) → number ≡ value_of lengths sig → block ≡ block_at (answered prefixes) (number / b) x → reply_in keys b (number % b) block ≡ lcp_reply keys b (answered lengths) (answered prefixes) x
+  pub lcp_is : (keys b : ℕ) (lengths prefixes : Function) (x : Bits) (sig : Signature) (number offset : ℕ) (block reply : Option ℕ) → sig ≡ signature seed keep (tagged None x) → number ≡ value_of lengths sig → offset ≡ number % b → block ≡ block_at (answered prefixes) (number / b) x → reply ≡ reply_in keys b offset block → reply ≡ lcp_reply keys b (answered lengths) (answered prefixes) x
   unfolding lcp_reply
-  lcp_is keys b lengths prefixes x sig number block signs is found =
-      ap (reply_in keys b (number % b)) found
+  lcp_is keys b lengths prefixes x sig number offset block reply signs is at found replies =
+      replies
+      ∙ (λ i. reply_in keys b (at i) (found i))
       ∙ reply_by_block keys b (answered prefixes) (number % b) (number / b) x
       ∙ ap (λ (k : ℕ). reply_at keys b (answered prefixes) (k % b) (k / b) x) (is ∙ ap (value_of lengths) (signed_is x x sig refl signs))
 
   -- the reply by an offset and a code
-  pub lcp2_is : (keys b : ℕ) (offsets codes : Function) (table : List ℕ) (escaped prefixes : Function) (x : Bits) (sig : Signature) (offset len : ℕ) (block : Option ℕ) → sig ≡ signature seed keep (tagged None x) → offset ≡ value_of offsets sig → len ≡ length_by table (value_of codes sig) (value_of escaped sig) → block ≡ block_at (answered prefixes) len x → reply_in keys b offset block ≡ lcp2_reply keys b (answered offsets) (answered codes) table (answered escaped) (answered prefixes) x
+  pub lcp2_is : (keys b : ℕ) (offsets codes : Function) (table : List ℕ) (escaped prefixes : Function) (x : Bits) (sig : Signature) (offset len : ℕ) (block reply : Option ℕ) → sig ≡ signature seed keep (tagged None x) → offset ≡ value_of offsets sig → len ≡ length_by table (value_of codes sig) (value_of escaped sig) → block ≡ block_at (answered prefixes) len x → reply ≡ reply_in keys b offset block → reply ≡ lcp2_reply keys b (answered offsets) (answered codes) table (answered escaped) (answered prefixes) x
   unfolding lcp2_reply
-  lcp2_is keys b offsets codes table escaped prefixes x sig offset len block signs at is found =
+  lcp2_is keys b offsets codes table escaped prefixes x sig offset len block reply signs at is found replies =
       let same : sig ≡ signature seed keep x = signed_is x x sig refl signs in
-      ap (reply_in keys b offset) found
+      replies
+      ∙ ap (reply_in keys b offset) found
       ∙ reply_by_block keys b (answered prefixes) offset len x
       ∙ (λ i. reply_at keys b (answered prefixes) (at i) (is i) x)
       ∙ ap (λ s. reply_at keys b (answered prefixes) (value_of offsets s) (length_by table (value_of codes s) (value_of escaped s)) x) same
