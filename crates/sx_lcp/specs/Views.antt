@@ -1,5 +1,5 @@
 -- Functions that are read from words, as they answer strings.
-use Rattle.std.specs.Prelude.{ℕ}
+use Rattle.std.specs.Prelude.{ℕ, nat_lt, if◌then◌else◌, List, length, take, slice_index, Option, Some, None}
 use Rattle.sx_fields.specs.declared.bank.WordBank.{Ghosts}
 use Rattle.sx_spec_strings.specs.Bits.{Bits}
 use Rattle.sx_spec.specs.Signature.{signature}
@@ -14,3 +14,11 @@ function_read {bank_of = bank_of} v = viewed (bank_of.words_of v.bank) v.first v
 -- what it answers a string under a seed, with so many bits of its signature
 abbrev pub answers_by : {B : Type 0} {bank_of : Ghosts B} (v : FuncView B bank_of) (seed sig_bits : ℕ) → Bits → ℕ
 answers_by v seed sig_bits x = value_of (function_read v) (signature seed sig_bits x)
+
+-- the number that a function gives the first bits of a string, where it has so many
+abbrev pub block_at : (prefixes : Bits → ℕ) (len : ℕ) (x : Bits) → Option ℕ
+block_at prefixes len x = if nat_lt (length x) len then None else Some (prefixes (take len x))
+
+-- what a code stands for: below the table's length a number of the table, and any other an escaped number
+abbrev pub length_by : (table : List ℕ) (code escaped : ℕ) → ℕ
+length_by table code escaped = if nat_lt code (length table) then slice_index table code else escaped

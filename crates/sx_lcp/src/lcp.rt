@@ -7,10 +7,12 @@ ghost use Rattle.sx_spec_kinds.specs.Lcp.{lcp_reply};
 ghost use Rattle.sx_bits.specs.Views.{bits_of};
 ghost use Rattle.sx_lcp.specs.Views.{answers_by};
 
+use crate::reply::{block_by_prefix, place_in};
 use std::alloc::AllocError;
 use std::sync::ledger::Ledger;
 use sx_bits::BitView;
 use sx_fields::bank::WordBank;
+use sx_sig::sign;
 use sx_static::FuncView;
 use sx_steps::Steps;
 
@@ -72,14 +74,18 @@ impl<B: WordBank + Copy> LcpView<B> {
         sig_bits: u32,
         steps: &mut Steps<L>,
     ) -> Option<u64>
-        requires bits { sig_bits ≤ 192 }
-        requires stub { ⊥ }
+        requires { sig_bits ≤ 192 }
         ensures value { result ≡ lcp_reply self.now.keys (block_size self.now.log_bucket)
             (answers_by self.now.lengths seed sig_bits)
             (answers_by self.now.prefixes seed sig_bits) (bits_of view.now) }
         ensures counted { steps.old ≤ steps.new }
         ensures cost { steps.new ≤ steps.old + 16 }
     {
-        unreachable!()
+        let sig = sign(seed, view, None, sig_bits);
+        let number = self.lengths.answer(&sig, steps);
+        let len = number >> self.log_bucket;
+        let offset = number % (1 << self.log_bucket);
+        let block = block_by_prefix(&self.prefixes, len, view, seed, sig_bits, steps)?;
+        place_in(block, offset, self.keys, self.log_bucket)
     }
 }

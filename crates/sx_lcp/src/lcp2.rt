@@ -6,14 +6,17 @@ ghost use Rattle.sx_fields.specs.declared.fields.Fields.{Ghosts as FieldGhosts};
 ghost use Rattle.sx_spec_kinds.specs.Blocks.{block_size};
 ghost use Rattle.sx_spec_kinds.specs.Lcp.{lcp2_reply};
 ghost use Rattle.sx_bits.specs.Views.{bits_of};
-ghost use Rattle.sx_lcp.specs.Views.{answers_by};
+ghost use Rattle.sx_spec.specs.StaticFunction.{value_of};
+ghost use Rattle.sx_lcp.specs.Views.{answers_by, function_read, length_by};
 
+use crate::reply::{block_by_prefix, place_in};
 use std::alloc::AllocError;
 use std::sync::ledger::Ledger;
 use sx_bits::BitView;
 use sx_fields::bank::WordBank;
 use sx_fields::fields::Fields;
 use sx_fields::packed::Packed;
+use sx_sig::{Signature, sign};
 use sx_static::FuncView;
 use sx_steps::Steps;
 
@@ -90,8 +93,7 @@ impl<B: WordBank + Copy> Lcp2View<B> {
         sig_bits: u32,
         steps: &mut Steps<L>,
     ) -> Option<u64>
-        requires bits { sig_bits ≤ 192 }
-        requires stub { ⊥ }
+        requires { sig_bits ≤ 192 }
         ensures value { result ≡ lcp2_reply self.now.keys (block_size self.now.log_bucket)
             (answers_by self.now.offsets seed sig_bits) (answers_by self.now.codes seed sig_bits)
             (⟦<Packed<B> as Fields>⟧.items self.now.table)
@@ -100,6 +102,27 @@ impl<B: WordBank + Copy> Lcp2View<B> {
         ensures counted { steps.old ≤ steps.new }
         ensures cost { steps.new ≤ steps.old + 34 }
     {
-        unreachable!()
+        let sig = sign(seed, view, None, sig_bits);
+        let offset = self.offsets.answer(&sig, steps);
+        let len = self.length_of(&sig, steps);
+        let block = block_by_prefix(&self.prefixes, len, view, seed, sig_bits, steps)?;
+        place_in(block, offset, self.keys, self.log_bucket)
+    }
+
+    /// The length that the code of a signature stands for. At most 16 words are read.
+    #[inline(always)]
+    fn length_of<L: Ledger>(&self, sig: &Signature, steps: &mut Steps<L>) -> u64
+        ensures value { result ≡ length_by (⟦<Packed<B> as Fields>⟧.items self.now.table)
+            (value_of (function_read self.now.codes) sig.now)
+            (value_of (function_read self.now.escaped) sig.now) }
+        ensures counted { steps.old ≤ steps.new }
+        ensures cost { steps.new ≤ steps.old + 16 }
+    {
+        let code = self.codes.answer(sig, steps);
+        if code < self.table.len() as u64 {
+            self.table.read(code as usize, steps)
+        } else {
+            self.escaped.answer(sig, steps)
+        }
     }
 }

@@ -5,8 +5,12 @@ mod codes;
 mod lcp;
 mod lcp2;
 mod parts;
+mod reply;
 
 pub use codes::{TwoStep, two_step};
 pub use lcp::LcpView;
 pub use lcp2::Lcp2View;
 pub use parts::{LcpParts, lcp_parts};
+
+#[cfg(test)]
+mod views_tests;
