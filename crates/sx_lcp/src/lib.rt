@@ -10,3 +10,6 @@ pub use codes::{TwoStep, two_step};
 pub use lcp::LcpView;
 pub use lcp2::Lcp2View;
 pub use parts::{LcpParts, lcp_parts};
+
+#[cfg(test)]
+mod parts_tests;

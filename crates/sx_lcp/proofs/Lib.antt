@@ -1,0 +1,2 @@
+mod CommonPrefixes
+mod BlockParts
