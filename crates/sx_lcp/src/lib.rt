@@ -13,4 +13,6 @@ pub use lcp2::Lcp2View;
 pub use parts::{LcpParts, lcp_parts};
 
 #[cfg(test)]
+mod parts_tests;
+#[cfg(test)]
 mod views_tests;
