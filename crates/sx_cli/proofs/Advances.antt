@@ -1,5 +1,5 @@
 -- How reading the lines of input goes on, and what it comes to.
-use Rattle.std.proofs.Common.{◌≡◌, ◌≢◌, ℕ, ◌<◌, ◌≤◌, Bool, true, false, List, [], ◌∷◌, ◌++◌, length, refl, sym, ap, subst, ◌∙◌, arith, append_assoc, inl, inr, ◌⊎◌, Option, Some, None}
+use Rattle.std.proofs.Common.{◌≡◌, ◌≢◌, ℕ, ◌<◌, ◌≤◌, Bool, true, false, List, [], ◌∷◌, ◌++◌, length, refl, sym, ap, subst, ◌∙◌, arith, append_assoc, inl, inr, ◌⊎◌, Option, Some, None, append-nil}
 use Rattle.std.specs.Prelude.{IfSome}
 use Rattle.std.specs.Io.KnownBytes.{Consumes, IsAtEnd}
 use Rattle.std.specs.List.{AllByRecursion}
@@ -11,7 +11,7 @@ use Rattle.sx_edge.specs.Places.{HasNoFeed}
 use Rattle.sx_edge.proofs.LineLaws.{lines-last}
 use Rattle.sx_cli.specs.KeyLines.{fed}
 use Rattle.sx_cli.specs.Progress.{Begins, BreaksBehind, Over, Progress, ReadsAll, FailsBehind, StopsAt}
-use Rattle.sx_cli.proofs.FedLines.{lines-fed_all, fed-push, all_push, unfinished-fed, complete-fed, append_nothing}
+use Rattle.sx_cli.proofs.FedLines.{lines-fed_all, fed-push, all_push, unfinished-fed, complete-fed}
 
 not_empty : (xs : List ℕ) → 0 < length xs → xs ≢ []
 not_empty xs some = λ e. absurd (omega (arith, ap (λ (l : List ℕ). length l) e))
@@ -33,7 +33,7 @@ breaks_behind first now held ended ls p = elim p.state [
     taken = fed o.front ++ o.last;
     consumed = o.taken;
     more = [];
-    are = whole o ∙ sym (append_nothing ls);
+    are = whole o ∙ sym (append-nil ls);
     told = over first now o (p.end o.ended_here) o.taken;
   }
 ]
@@ -49,7 +49,7 @@ breaks_behind first now held ended ls p = elim p.state [
     over : (f n : Option (List ℕ)) (o : Over first now held ended ls) → IsAtEnd n → Consumes f n (fed o.front ++ o.last) → Begins f ls
     over None n o end c = tt
     over (Some xs) None o end c = absurd c
-    over (Some xs) (Some ys) o end c = ([], ap lines (c ∙ ap (λ (x : List ℕ). (fed o.front ++ o.last) ++ x) end ∙ append_nothing (fed o.front ++ o.last)) ∙ whole o ∙ sym (append_nothing ls))
+    over (Some xs) (Some ys) o end c = ([], ap lines (c ∙ ap (λ (x : List ℕ). (fed o.front ++ o.last) ++ x) end ∙ append-nil (fed o.front ++ o.last)) ∙ whole o ∙ sym (append-nil ls))
 
 module _ (first now then : Option (List ℕ)) (held next bytes : List ℕ) (ended over : Bool) (ls : List Text)
     (consumed : Consumes now then bytes) (at_end : over ≡ true → (ended ≡ true) ⊎ IsAtEnd then) (quiet : ended ≡ true → (bytes ≡ []) × (then ≡ now) × (over ≡ true)) where
@@ -92,7 +92,7 @@ module _ (first now then : Option (List ℕ)) (held next bytes : List ℕ) (ende
         front = ls;
         last = line;
         is = refl;
-        taken = subst (Consumes first then) (ap (λ (x : List ℕ). fed ls ++ (line ++ x)) nothing ∙ ap (λ (x : List ℕ). fed ls ++ x) (append_nothing line)) (together (fed ls) line g.taken whole);
+        taken = subst (Consumes first then) (ap (λ (x : List ℕ). fed ls ++ (line ++ x)) nothing ∙ ap (λ (x : List ℕ). fed ls ++ x) (append-nil line)) (together (fed ls) line g.taken whole);
         no_feeds = g.no_feeds;
         no_feed = none;
         some = some;
@@ -110,7 +110,7 @@ module _ (first now then : Option (List ℕ)) (held next bytes : List ℕ) (ende
     | inl g ↦ record {
       taken = fed ls ++ ([] ++ next);
       consumed = together (fed ls) [] g.taken whole;
-      are = ap (λ (x : List ℕ). lines (fed ls ++ x)) nothing ∙ lines-fed_all ls [] g.no_feeds ∙ append_nothing ls;
+      are = ap (λ (x : List ℕ). lines (fed ls ++ x)) nothing ∙ lines-fed_all ls [] g.no_feeds ∙ append-nil ls;
       end = ends p is;
     }
     | inr o ↦
@@ -146,7 +146,7 @@ module _ (first now then : Option (List ℕ)) (held next bytes : List ℕ) (ende
           consumed = together (fed ls) [] g.taken whole;
           line = line;
           more = more;
-          are = lines-fed_all ls next g.no_feeds ∙ ap (λ (x : List Text). ls ++ x) (ap lines (sym (append_nothing next)) ∙ are);
+          are = lines-fed_all ls next g.no_feeds ∙ ap (λ (x : List Text). ls ++ x) (ap lines (sym (append-nil next)) ∙ are);
           is = is;
           told = told_long first then (together (fed ls) [] g.taken whole) g.no_feeds;
         }
@@ -204,4 +204,4 @@ stops_at_last first now held ended ls line IsLine is p = elim p.state [
     over None n o end c = tt
     over (Some xs) None o end c = absurd c
     over (Some xs) (Some ys) o end c =
-        ([], line, is, ap lines (c ∙ ap (λ (x : List ℕ). (fed o.front ++ o.last) ++ x) end ∙ append_nothing (fed o.front ++ o.last)) ∙ whole o)
+        ([], line, is, ap lines (c ∙ ap (λ (x : List ℕ). (fed o.front ++ o.last) ++ x) end ∙ append-nil (fed o.front ++ o.last)) ∙ whole o)

@@ -1,18 +1,15 @@
 -- Lines that each end in a line feed, and what follows the last of them.
-use Rattle.std.proofs.Common.{◌≡◌, ℕ, zero, suc, ◌+◌, ◌-◌, ◌<◌, ◌≤◌, Bool, true, false, List, [], ◌∷◌, ◌++◌, length, take, get_or, refl, sym, ap, ◌∙◌, arith, append_assoc}
-use Rattle.std.specs.Prelude.{not, ◌||◌}
+use Rattle.std.proofs.Common.{◌≡◌, ℕ, zero, suc, ◌+◌, ◌-◌, ◌<◌, ◌≤◌, true, List, [], ◌∷◌, ◌++◌, length, take, get_or, refl, sym, ap, ◌∙◌, arith, append_assoc, append-nil}
+use Rattle.std.specs.Prelude.{not}
 use Rattle.std.specs.List.{AllByRecursion, list_any, suffix_len}
 use Rattle.std.proofs.lemmas.List.{length-append}
 use Rattle.std.proofs.lemmas.List.Sums.{suffix_len_is}
 use Rattle.std.proofs.Math.Seq.{take-append_seam, drop-append_seam}
+use Rattle.std.proofs.lemmas.Bool.{or_parts}
 use Rattle.sx_spec_strings.specs.Lines.{is_line_feed, lines, unfinished_line, complete_lines}
 use Rattle.sx_edge.specs.Places.{HasNoFeed}
 use Rattle.sx_edge.proofs.LineLaws.{lines-feed}
 use Rattle.sx_cli.specs.KeyLines.{fed}
-
-neither : (a b : Bool) → (a || b) ≡ false → (a ≡ false) × (b ≡ false)
-neither true b e = absurd cc
-neither false b e = (refl, e)
 
 -- lines and what follows them
 pub lines-fed_all : (ls : List (List ℕ)) (rest : List ℕ) → AllByRecursion HasNoFeed ls → lines (fed ls ++ rest) ≡ ls ++ lines rest
@@ -35,8 +32,8 @@ all_push P (y ∷ xs) x all here = (all.0, all_push P xs x all.1 here)
 
 no_feed_at : (held : List ℕ) → HasNoFeed held → (k : ℕ) → not (is_line_feed (get_or held k 0)) ≡ true
 no_feed_at [] none k = refl
-no_feed_at (b ∷ held) none zero = let (here, later) = neither (is_line_feed b) (list_any is_line_feed held) none in ap not here
-no_feed_at (b ∷ held) none (suc k) = let (here, later) = neither (is_line_feed b) (list_any is_line_feed held) none in no_feed_at held later k
+no_feed_at (b ∷ held) none zero = let (here, later) = or_parts (is_line_feed b) (list_any is_line_feed held) none in ap not here
+no_feed_at (b ∷ held) none (suc k) = let (here, later) = or_parts (is_line_feed b) (list_any is_line_feed held) none in no_feed_at held later k
 
 get_behind : (xs ys : List ℕ) (k : ℕ) → length xs ≤ k → get_or (xs ++ ys) k 0 ≡ get_or ys (k - length xs) 0
 get_behind [] ys k le = let e : k - 0 ≡ k = omega arith in rw e refl
@@ -62,10 +59,6 @@ last_feed (l ∷ m ∷ ls) some =
     let at : length (l ++ 10 ∷ fed (m ∷ ls)) - 1 - length l ≡ suc (length (fed (m ∷ ls)) - 1) = omega arith in
     get_behind l (10 ∷ fed (m ∷ ls)) (length (l ++ 10 ∷ fed (m ∷ ls)) - 1) (omega arith) ∙ rw at rest
 
-pub append_nothing : {X : Type 0} (xs : List X) → xs ++ [] ≡ xs
-append_nothing [] = refl
-append_nothing (x ∷ xs) = λ i. x ∷ append_nothing xs i
-
 module _ (ls : List (List ℕ)) (held : List ℕ) (none : HasNoFeed held) where
   behind : suffix_len (λ b. not (is_line_feed b)) (fed ls ++ held) ≡ length (fed ls ++ held) - length (fed ls)
   behind =
@@ -87,5 +80,5 @@ module _ (ls : List (List ℕ)) (held : List ℕ) (none : HasNoFeed held) where
       let size = length-append (fed ls) held in
       let rest = unfinished-fed in
       let at : length (fed ls ++ held) - length (unfinished_line (fed ls ++ held)) ≡ length (fed ls) = omega (arith, ap length rest) in
-      let front : take (length (fed ls ++ held) - length (unfinished_line (fed ls ++ held))) (fed ls ++ held) ≡ fed ls ++ [] = rw at (take-append_seam (fed ls) held ∙ sym (append_nothing (fed ls))) in
-      ap lines front ∙ lines-fed_all ls [] each ∙ append_nothing ls
+      let front : take (length (fed ls ++ held) - length (unfinished_line (fed ls ++ held))) (fed ls ++ held) ≡ fed ls ++ [] = rw at (take-append_seam (fed ls) held ∙ sym (append-nil (fed ls))) in
+      ap lines front ∙ lines-fed_all ls [] each ∙ append-nil ls

@@ -19,10 +19,6 @@ enumerate_from-append n (x ∷ xs) ys =
     let e : n + 1 + length xs ≡ n + suc (length xs) = omega arith in
     ap (λ l. (n, x) ∷ l) (rw (← e) (enumerate_from-append (n + 1) xs ys))
 
-append_none : {X : Type 0} (xs : List X) → xs ++ [] ≡ xs
-append_none [] = refl
-append_none (x ∷ xs) = λ i. x ∷ append_none xs i
-
 -- ---- keys
 
 -- a line's fault looks at the lines before it alone

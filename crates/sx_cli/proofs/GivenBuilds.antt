@@ -12,8 +12,10 @@ use Rattle.sx_spec.specs.Layout.{words_bytes}
 use Rattle.sx_spec.specs.Messages.{at_values, memory_text, key_text, values_text}
 use Rattle.sx_spec.specs.Outcomes.{GivesValues}
 use Rattle.sx_spec.specs.Run.{Promise}
-use Rattle.sx_spec.specs.World.{World, Files, CountsStay, KeepsFiles, SetsFile}
+use Rattle.sx_spec.specs.World.{World, Files, CountsStay, KeepsFiles}
 use Rattle.sx_spec_program.specs.Program.{sux_program}
+use Rattle.sx_edge.specs.Kept.{KeepsFiles-trans}
+use Rattle.sx_edge.proofs.Files.{SetsFile-after_kept}
 use Rattle.sx_cli.specs.Building.{RefusesLine}
 use Rattle.sx_cli.specs.Progress.{ReadsAll}
 use Rattle.sx_cli.specs.Storing.{Outside, GivenEnds, Stores}
@@ -24,18 +26,10 @@ use Rattle.sx_cli.specs.Writing.{SetsPart}
 use Rattle.sx_cli.specs.declared.values.ValuesStop.TheVariants.{Refused, Failed}
 use Rattle.sx_text.specs.declared.messages.ValuesFault.{ValuesFault}
 use Rattle.sx_cli.proofs.Builds.{key_refused, build_memory, values_failed, values_refused, seeds_fail, build_done, dump_failed, line_failed}
-use Rattle.sx_cli.proofs.Shelves.{kept_twice}
-
--- what was set after files were kept
-kept_set : (name : Text) (bytes : List ℕ) (a b c : Option Files) → KeepsFiles a b → SetsFile name bytes b c → SetsFile name bytes a c
-kept_set name bytes None b c k s = tt
-kept_set name bytes (Some f) None c k s = absurd k
-kept_set name bytes (Some f) (Some g) None k s = absurd s
-kept_set name bytes (Some f) (Some g) (Some h) k s = (s.0, λ other ne. s.1 other ne ∙ k other)
 
 kept_part : (name : Text) (bytes : List ℕ) (a b c : Option Files) → KeepsFiles a b → SetsPart name bytes b c → SetsPart name bytes a c
-kept_part name bytes a b c k (inl kept) = inl (kept_twice a b c k kept)
-kept_part name bytes a b c k (inr (part, begins, set)) = inr (part, begins, kept_set name part a b c k set)
+kept_part name bytes a b c k (inl kept) = inl (KeepsFiles-trans a b c k kept)
+kept_part name bytes a b c k (inr (part, begins, set)) = inr (part, begins, SetsFile-after_kept name part a b c k set)
 
 -- the values that were given are those that are due
 pub gives : (values : Option Text) (keys : ℕ) (before : World) (vs : List ℕ) → Given values keys before.files vs → GivesValues values keys before vs
@@ -88,10 +82,10 @@ module _ (t : BuildTask) (before after : World) (ticks : ℕ) (result : Status) 
         all_many = many t.values (length keys) before.files vs given
 
         stored : Stores t.dump s.words s.line old new result → Promise sux_program (build t) before after ticks result
-        stored (inl w) = build_done t before after ticks result counts keys all valid vs due all_many s.words s.line s.ready (kept_set t.dump (words_bytes s.words) before.files files after.files kept w.files) w.out w.err w.is
+        stored (inl w) = build_done t before after ticks result counts keys all valid vs due all_many s.words s.line s.ready (SetsFile-after_kept t.dump (words_bytes s.words) before.files files after.files kept w.files) w.out w.err w.is
         stored (inr (inl f)) = let cause = f.cause in
             dump_failed t before after ticks result counts keys all valid vs due all_many s.words s.line s.ready (kept_part t.dump (words_bytes s.words) before.files files after.files kept f.files) (omega (arith, cause, later)) f.out f.count f.told
-        stored (inr (inr l)) = line_failed t before after ticks result counts keys all valid vs due all_many s.words s.line s.ready (kept_set t.dump (words_bytes s.words) before.files files after.files kept l.files) l.out l.cause l.told
+        stored (inr (inr l)) = line_failed t before after ticks result counts keys all valid vs due all_many s.words s.line s.ready (SetsFile-after_kept t.dump (words_bytes s.words) before.files files after.files kept l.files) l.out l.cause l.told
     given_ends (inr (inl f)) =
         seeds_fail t before after ticks result counts keys all valid vs (gives t.values (length keys) before vs given) (many t.values (length keys) before.files vs given) f.message f.fail
         (subst (KeepsFiles before.files) (sym f.unstored.files) kept) f.unstored.out f.unstored.told

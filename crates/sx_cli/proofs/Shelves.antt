@@ -4,19 +4,8 @@ use Rattle.std.specs.Prelude.{IsSome, IfSome, OnErr}
 use Rattle.sx_spec.specs.Command.{Text}
 use Rattle.sx_spec.specs.World.{Files, KeepsFiles, SetsFile}
 use Rattle.sx_edge.specs.Shelf.{AppendsFile, AppendsFilePrefix}
+use Rattle.sx_edge.proofs.Files.{SetsFile-kept}
 use Rattle.sx_cli.specs.Writing.{SetsPart}
-
-pub kept_twice : (a b c : Option Files) → KeepsFiles a b → KeepsFiles b c → KeepsFiles a c
-kept_twice None b c k l = tt
-kept_twice (Some f) None c k l = absurd k
-kept_twice (Some f) (Some g) None k l = absurd l
-kept_twice (Some f) (Some g) (Some h) k l = λ name. l name ∙ k name
-
-pub set_kept : (name : Text) (bytes : List ℕ) (a b c : Option Files) → SetsFile name bytes a b → KeepsFiles b c → SetsFile name bytes a c
-set_kept name bytes None b c s k = tt
-set_kept name bytes (Some f) None c s k = absurd s
-set_kept name bytes (Some f) (Some g) None s k = absurd k
-set_kept name bytes (Some f) (Some g) (Some h) s k = (k name ∙ s.0, λ other ne. k other ∙ s.1 other ne)
 
 -- the same with the set file put in: what was appended to an empty file is all of it
 appended_all : (name part : List ℕ) (f : Files) (now : Option (List ℕ)) (g : Files) (new : Option Files) → now ≡ Some [] → ((other : Text) → other ≢ name → g other ≡ f other) → IfSome now (λ bytes. SetsFile name (bytes ++ part) (Some g) new) → SetsFile name part (Some f) new
@@ -37,11 +26,11 @@ set_appended name part (Some t) (Some f) (Some g) c s named h =
 
 -- a prefix was written, and then the file was closed
 pub part_set : (name bytes : List ℕ) (to : Option Text) (a b c d : Option Files) → SetsFile name [] a b → (IsSome a → to ≡ Some name) → AppendsFilePrefix to b c bytes → KeepsFiles c d → SetsPart name bytes a d
-part_set name bytes to a b c d s named (part, begins, h) k = inr (part, begins, set_kept name part a c d (set_appended name part to a b c s named h) k)
+part_set name bytes to a b c d s named (part, begins, h) k = inr (part, begins, SetsFile-kept name part a c d (set_appended name part to a b c s named h) k)
 
 -- the whole file was written, and then closed
 pub whole_set : (name bytes : List ℕ) (to : Option Text) (a b c d : Option Files) → SetsFile name [] a b → (IsSome a → to ≡ Some name) → AppendsFile to b c bytes → KeepsFiles c d → SetsFile name bytes a d
-whole_set name bytes to a b c d s named h k = set_kept name bytes a c d (set_appended name bytes to a b c s named h) k
+whole_set name bytes to a b c d s named h k = SetsFile-kept name bytes a c d (set_appended name bytes to a b c s named h) k
 
 -- a file that was set whole was set in part
 pub whole_is_part : (name bytes : List ℕ) (a b : Option Files) → SetsFile name bytes a b → SetsPart name bytes a b

@@ -1,7 +1,7 @@
 -- How the calls of a line reader bring the values of a file forward.
-use Rattle.std.proofs.Common.{◌≡◌, ℕ, zero, suc, add-one, ◌+◌, ◌<◌, false, List, [], ◌∷◌, ◌++◌, length, refl, sym, ap, subst, ◌∙◌, arith, Option, Some, None, Result, Ok, Err}
+use Rattle.std.proofs.Common.{◌≡◌, ℕ, ◌+◌, ◌<◌, false, List, [], ◌∷◌, ◌++◌, length, refl, sym, ap, subst, ◌∙◌, arith, Option, Some, None, Result, Ok, Err}
 use Rattle.std.specs.Prelude.{IfSome, MatchResult, filter_map}
-use Rattle.std.specs.List.{enumerate_from, range_with_len}
+use Rattle.std.specs.List.{enumerate_from}
 use Rattle.std.proofs.lemmas.List.{length-append, length-map, map-append}
 use Rattle.sx_spec.specs.Command.{Text}
 use Rattle.sx_spec.specs.Values.{ValuesFault as SpecFault, fewer_than_keys, numeral_value, value_fault, values_faults, values_on}
@@ -114,11 +114,3 @@ module _ (keys : ℕ) (first now then : Option (List ℕ)) (reader new : Reading
       by_result : (q : Result V ValuesStop) → MatchResult q (λ v. (items_of v ≡ values) × (length values ≡ keys)) (IsTooFew keys (length values)) → MatchResult q (λ v. ReadsValues keys first (items_of v)) (StopsLines keys first before after)
       by_result (Ok v) (is, same) = subst (ReadsValues keys first) (sym is) (record { as_many = same; told = told first (all_lines first then r.lines_read all) same })
       by_result (Err stop) few = by_stop stop few
-
--- one number more
-pub range-push : (a n : ℕ) → range_with_len a (n + 1) ≡ range_with_len a n ++ (a + n) ∷ []
-range-push a n = rw add-one (push a n)
-  where
-    push : (a n : ℕ) → range_with_len a (suc n) ≡ range_with_len a n ++ (a + n) ∷ []
-    push a zero = let e : a + 0 ≡ a = omega arith in rw e refl
-    push a (suc n) = let e : a + 1 + n ≡ a + suc n = omega arith in ap (λ (l : List ℕ). a ∷ l) (rw (← e) (push (a + 1) n))

@@ -1,6 +1,6 @@
 use Rattle.std.proofs.Common.{◌≡◌, length, refl, arith, ◌∙◌}
+use Rattle.sx_edge.specs.Kept.{KeepsFiles-trans}
 use Rattle.sx_cli.proofs.FileReadings.{words_counted, piece_read, file_ends, last_read}
-use Rattle.sx_cli.proofs.Shelves.{kept_twice}
 use Rattle.sx_cli.proofs.file_words.read_words.Goals as goal
 
 pub returns-then-count-lt-PIECE-clause-words : goal.returns-then-count-lt-PIECE-clause-words
@@ -26,7 +26,7 @@ pieces-preserved g c =
       so_far = piece_read _ _ _ _ _ c.pieces.i _ c.in_ok-count.count i.so_far c.in_ok-count.ensures.took room (omega arith);
       size = i.size;
       stays = c.in_ok-count.ensures.stays;
-      kept = kept_twice _ _ _ i.kept c.in_ok-count.ensures.files;
+      kept = KeepsFiles-trans _ _ _ i.kept c.in_ok-count.ensures.files;
       calm = c.in_ok-count.ensures.counts.calm refl ∙ i.calm;
     }
 

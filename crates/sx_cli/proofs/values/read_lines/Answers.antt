@@ -1,6 +1,6 @@
 use Rattle.std.proofs.Common.{refl, sym, ◌∙◌}
+use Rattle.sx_edge.specs.Kept.{KeepsFiles-trans}
 use Rattle.sx_cli.proofs.Endings.{same_files}
-use Rattle.sx_cli.proofs.Shelves.{kept_twice}
 use Rattle.sx_cli.proofs.ValueReadings.{no_values, value_read, value_stops, long_stops, values_end}
 use Rattle.sx_cli.proofs.values.read_lines.Goals as goal
 
@@ -20,7 +20,7 @@ lines-preserved g c =
           c.number.result c.number.ensures c.push_value.new.values.items c.in-Ok-push_value.ensures;
       calm = c.in-Ok-Line.ensures.counts.calm refl ∙ i.calm;
       stays = c.in-Ok-Line.ensures.stays;
-      kept = kept_twice _ _ _ i.kept c.in-Ok-Line.ensures.files;
+      kept = KeepsFiles-trans _ _ _ i.kept c.in-Ok-Line.ensures.files;
     }
 
 pub returns-in-Err-push_value-clause-values : goal.returns-in-Err-push_value-clause-values
