@@ -22,11 +22,13 @@ use crate::seeds::{Tried, try_seeds};
 use crate::telling::{Place, fail, tell, tell_memory};
 use crate::values::{ValuesStop, ranks, read_values};
 use std::alloc::Global;
+use std::sync::ledger::Ledger;
 use sx_bits::KeyList;
 use sx_edge::shelf::Shelf;
 use sx_edge::sink::{Sink, write_all};
 use sx_edge::source::Source;
 use sx_spec::Status;
+use sx_steps::Steps;
 use sx_text::messages::{KeyReason, ValuesFault, key_message, values_message};
 use sx_words::BuildTask;
 
@@ -107,7 +109,7 @@ fn store<F: Shelf, O: Sink, E: Sink>(
 }
 
 /// Builds and stores the dump of these keys and values, or tells why no seed works.
-fn build_given<F: Shelf, O: Sink, E: Sink>(
+fn build_given<F: Shelf, O: Sink, E: Sink, L: Ledger>(
     alloc: Global,
     task: &BuildTask,
     keys: &KeyList,
@@ -115,6 +117,7 @@ fn build_given<F: Shelf, O: Sink, E: Sink>(
     files: &mut F,
     out: &mut O,
     err: &mut E,
+    steps: &mut Steps<L>,
 ) -> Status
     requires idle { F.in_use files.old ≡ idle }
     requires values { length values.now ≡ length keys.now.lines }
@@ -127,8 +130,16 @@ fn build_given<F: Shelf, O: Sink, E: Sink>(
     ensures counts { StaysUnless (is_fault result) (F.faults files.old) (F.faults files.new) }
     ensures counts_out { StaysUnless (is_fault result) (O.faults out.old) (O.faults out.new) }
     ensures counts_err { StaysUnless (is_fault result) (E.faults err.old) (E.faults err.new) }
+    ensures counted { steps.old ≤ steps.new }
 {
-    match try_seeds(alloc, &task.plan, task.seeds.as_slice(), keys, values) {
+    match try_seeds(
+        alloc,
+        &task.plan,
+        task.seeds.as_slice(),
+        keys,
+        values,
+        steps,
+    ) {
         Ok(Tried::Dump { words, line }) => store(
             task.dump.as_str(),
             &words,
@@ -144,13 +155,14 @@ fn build_given<F: Shelf, O: Sink, E: Sink>(
 
 /// Reads keys from input, and their values from a file where one is named, and writes the dump of
 /// the static function that gives each key its value or number, then a line on it to out.
-pub fn build<F: Shelf, S: Source, O: Sink, E: Sink>(
+pub fn build<F: Shelf, S: Source, O: Sink, E: Sink, L: Ledger>(
     alloc: Global,
     task: &BuildTask,
     files: &mut F,
     input: &mut S,
     out: &mut O,
     err: &mut E,
+    steps: &mut Steps<L>,
 ) -> Status
     requires idle { F.in_use files.old ≡ idle }
     requires plan { IsOfferedPlan task.now.plan }
@@ -159,6 +171,7 @@ pub fn build<F: Shelf, S: Source, O: Sink, E: Sink>(
         (world_of F.Shelf S.Source O.Sink E.Sink files.new input.new out.new err.new)
         ticks result }
     ensures closed { F.in_use files.new ≡ idle }
+    ensures counted { steps.old ≤ steps.new }
 {
     let keys = match read_keys(alloc, input) {
         Ok(keys) => keys,
@@ -172,5 +185,5 @@ pub fn build<F: Shelf, S: Source, O: Sink, E: Sink>(
         Err(ValuesStop::Failed) => return fail(err, Place::Values),
         Err(ValuesStop::Memory) => return tell_memory(err),
     };
-    build_given(alloc, task, &keys, &values, files, out, err)
+    build_given(alloc, task, &keys, &values, files, out, err, steps)
 }

@@ -66,7 +66,7 @@ pub fn run<F: Shelf, S: Source, O: Sink, E: Sink, L: Ledger>(
     };
     match task {
         Task::Usage(rule) => refuse_words(alloc, err, rule),
-        Task::Build(task) => build(alloc, &task, files, input, out, err),
+        Task::Build(task) => build(alloc, &task, files, input, out, err, steps),
         Task::Query(name) => query(alloc, name.as_str(), files, input, out, err, steps),
         Task::Open(name) => show(alloc, name.as_str(), Wanted::Line, files, out, err),
         Task::Dump(name) => show(alloc, name.as_str(), Wanted::Whole, files, out, err),

@@ -6,9 +6,11 @@ ghost use Rattle.sx_spec_program.specs.Program.{IsOfferedPlan};
 ghost use Rattle.sx_cli.specs.Building.{IsTried};
 
 use std::alloc::{AllocError, Global};
+use std::sync::ledger::Ledger;
 use sx_bits::KeyList;
 use sx_dump::{Assembled, assemble};
 use sx_spec::Plan;
+use sx_steps::Steps;
 use sx_text::failures::push_failure;
 use sx_text::messages::built_text;
 
@@ -22,20 +24,22 @@ pub enum Tried {
 }
 
 /// The dump of the keys and values by the first seed that works, or a failure of each seed.
-pub fn try_seeds(
+pub fn try_seeds<L: Ledger>(
     alloc: Global,
     plan: &Plan,
     seeds: &[u64],
     keys: &KeyList,
     values: &[u64],
+    steps: &mut Steps<L>,
 ) -> Result<Tried, AllocError>
     requires values { length values.now ≡ length keys.now.lines }
     requires plan { IsOfferedPlan plan.now }
-    ensures { IfOk result (IsTried plan.now seeds.now keys.now.lines values.now) }
+    ensures tried { IfOk result (IsTried plan.now seeds.now keys.now.lines values.now) }
+    ensures counted { steps.old ≤ steps.new }
 {
     let mut message = Vec::new(alloc);
     'tries: for seed in seeds {
-        match assemble(alloc, keys, values, plan, *seed)? {
+        match assemble(alloc, keys, values, plan, *seed, steps)? {
             Assembled::Words(words) => {
                 let line = built_text(alloc, u64::from(keys.len()), *seed, words.len() as u64)?;
                 return Ok(Tried::Dump { words, line });

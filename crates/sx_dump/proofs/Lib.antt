@@ -1,5 +1,9 @@
 pub mod Cells
-pub mod Functions
+pub mod BuiltDumps
+pub mod Layouts
+pub mod PartLists
+pub mod KeyParts
+pub mod NarrowValues
 pub mod Pieces
 pub mod Signing
 pub mod Openings

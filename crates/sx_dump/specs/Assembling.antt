@@ -1,18 +1,16 @@
 -- What keys and values come to: the words of a dump, or why a seed doesn't work for them.
-use Rattle.std.specs.Prelude.{◌≡◌, ℕ, ◌+◌, ◌<◌, ◌^◌, List, [], ◌∷◌, ◌++◌, length, map, ⊤}
+use Rattle.std.specs.Prelude.{◌≡◌, ℕ, ◌<◌, ◌^◌, List, length, map, ⊤}
 use Rattle.std.specs.List.{AllByRecursion}
 use Rattle.sx_spec_strings.specs.Bits.{key_bits}
 use Rattle.sx_spec.specs.declared.Method.{Method}
 use Rattle.sx_spec.specs.declared.Plan.{Plan}
 use Rattle.sx_spec.specs.declared.Signature.{Signature}
 use Rattle.sx_spec.specs.Built.{IsBuilt}
-use Rattle.sx_spec.specs.Layout.{Dump, header_words, layout, magic, Passes}
-use Rattle.sx_spec.specs.Fields.{packed}
+use Rattle.sx_spec.specs.Layout.{Dump, layout, Passes}
 use Rattle.sx_spec.specs.Parts.{least_width, parts_of}
 use Rattle.sx_spec.specs.Reply.{AnswersMembers}
 use Rattle.sx_spec.specs.Signature.{signature}
 use Rattle.sx_spec.specs.StaticFunction.{Cause, twins, stuck, SeedFailure, IsSeedFailure}
-use Rattle.sx_static.specs.declared.FuncBuf.{FuncBuf}
 use Rattle.sx_static.specs.Answer.{witness_numbers, IsWitnessOf}
 use Rattle.sx_dump.specs.declared.assembling.Assembled.{Assembled}
 use Rattle.sx_dump.specs.declared.assembling.Assembled.TheVariants.{Words, SeedFailed}
@@ -66,9 +64,3 @@ IsAssembled keys values plan seed (SeedFailed fault) = IsFailure keys values pla
 -- the signature of a key
 abbrev pub key_signature : (seed sig_bits : ℕ) → List ℕ → Signature
 key_signature seed sig_bits line = signature seed sig_bits (key_bits line)
-
--- the words of the dump of a function
-abbrev pub function_dump_words : Plan → ℕ → FuncBuf → List ℕ
-function_dump_words plan seed f =
-    let rest = f.table.items ++ packed f.cells.width f.cells.items in
-    magic ∷ (length rest + 12) ∷ header_words (record { plan = plan; keys = f.pairs; seed = seed }) ++ (f.width ∷ f.pairs ∷ []) ++ rest

@@ -2,3 +2,4 @@ pub mod Assembling
 pub mod Opening
 pub mod Showing
 pub mod Viewing
+pub mod Sectioning

@@ -1,13 +1,20 @@
 //! Words of small dumps, and words in a file.
 
+ghost use Rattle.std.specs.Prelude.{◌≡◌, ◌<◌, length};
+ghost use Rattle.sx_spec_program.specs.Program.{IsOfferedPlan};
+
 use crate::{Assembled, PartCause, PartFault, assemble, put_words, words_of};
+use std::alloc::{AllocError, Global};
+use std::marker::Brand;
 use std::process::Abort;
+use std::sync::ledger::{Blank, Ledger};
 use std::test::Fail;
 use sx_bits::KeyList;
 use sx_edge::shelf::Shelf;
 use sx_memory::shelf::MemShelf;
 use sx_sig::{Kind, Method, Plan};
 use sx_spec::Limits;
+use sx_steps::Steps;
 
 #[test]
 fn words_of_nine_bytes(rt: HostRuntime) -> Result<(), Fail> {
@@ -45,6 +52,24 @@ fn keys_of(rt: &(impl Abort + AllocGlobal), lines: &[&[u8]]) -> Result<KeyList, 
     Ok(keys)
 }
 
+/// What keys and values come to with seed 0, under a fresh count of steps.
+fn assembled_under<L: Ledger>(
+    alloc: Global,
+    keys: &KeyList,
+    values: &[u64],
+    plan: &Plan,
+    blank: Blank,
+) -> Result<Assembled, AllocError>
+    requires name { blank.name ≡ L.name }
+    requires parts { blank.parts ≡ L.parts }
+    requires some { 0 < blank.parts }
+    requires plan { IsOfferedPlan plan.now }
+    requires values { length values.now ≡ length keys.now.lines }
+{
+    let mut steps = Steps::<L>::new(blank);
+    assemble(alloc, keys, values, plan, 0, &mut steps)
+}
+
 /// What keys and values come to with seed 0 and signatures of so many bits.
 fn assembled(
     rt: &(impl Abort + AllocGlobal),
@@ -63,7 +88,8 @@ fn assembled(
     };
     assert!(rt; plan.sig_bits <= 192);
     assert!(rt; values.len() == keys.len() as usize);
-    Ok(assemble(rt.alloc(), &keys, values, &plan, 0)?)
+    let blank = Blank::new(1);
+    Ok(assembled_under::<Brand>(rt.alloc(), &keys, values, &plan, blank)?)
 }
 
 /// The words of the dump of keys and values, for which seed 0 works.

@@ -18,7 +18,7 @@ as_task before after ticks result t task same p = subst (λ (x : Task). Promise 
 
 pub returns-in-Build-clause-promise : goal.returns-in-Build-clause-promise
 returns-in-Build-clause-promise g c =
-    as_task _ _ (c.args.steps.now - c.args.steps.now) c.build.result _ _ (ap task_of (sym c.in-Build.is) ∙ c.in-Ok.ensures) (c.build.ensures.promise (c.args.steps.now - c.args.steps.now))
+    as_task _ _ (c.build.new.steps - c.args.steps.now) c.build.result _ _ (ap task_of (sym c.in-Build.is) ∙ c.in-Ok.ensures) (c.build.ensures.promise (c.build.new.steps - c.args.steps.now))
 
 pub build-requires-clause-plan : goal.build-requires-clause-plan
 build-requires-clause-plan g c =

@@ -2,7 +2,7 @@ use Rattle.std.proofs.Common.{ap, ◌∙◌, List, ℕ}
 use Rattle.std.specs.Prelude.{fold, max}
 use Rattle.std.proofs.lemmas.List.{take_all}
 use Rattle.sx_spec_strings.specs.Numbers.{binary_digits}
-use Rattle.sx_dump.proofs.assembling.least_width.Goals as goal
+use Rattle.sx_dump.proofs.assembling.numbers.least_width.Goals as goal
 
 pub returns-clause-value : goal.returns-clause-value
 returns-clause-value c =

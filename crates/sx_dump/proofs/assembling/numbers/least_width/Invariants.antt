@@ -1,6 +1,6 @@
 use Rattle.std.proofs.Common.{◌≡◌, ◌^◌, ◌<◌, take}
 use Rattle.std.specs.Prelude.{fold, max}
-use Rattle.sx_dump.proofs.assembling.least_width.Given as goal
+use Rattle.sx_dump.proofs.assembling.numbers.least_width.Given as goal
 
 abbrev pub invariant-loop-value : goal.invariant-loop-value
 invariant-loop-value l = record {
