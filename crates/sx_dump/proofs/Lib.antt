@@ -5,6 +5,7 @@ pub mod Signing
 pub mod Openings
 pub mod Replies
 pub mod Showing
+pub mod ShownPlaces
 pub mod Tables
 pub mod Texts
 pub mod WordPieces

@@ -7,13 +7,16 @@ use Rattle.sx_spec.specs.Layout.{Header, Slot, exact_list, function_of, header_o
 use Rattle.sx_spec.specs.Show.{dump_text, section_text}
 use Rattle.sx_spec.specs.StaticFunction.{Function}
 use Rattle.sx_static.specs.Viewing.{viewed}
-use Rattle.sx_sections.specs.Lines.{chunk_line, entry_line, function_line, header_lines}
+use Rattle.sx_sections.specs.declared.name.SectionName.{SectionName}
+use Rattle.sx_sections.specs.declared.name.SectionName.TheVariants.{Values}
+use Rattle.sx_sections.specs.Lines.{chunk_line, entry_line, function_line, header_lines, list_line}
+use Rattle.sx_sections.specs.Names.{name_text}
 use Rattle.sx_dump.specs.Opening.{dump_in}
-use Rattle.sx_dump.specs.Showing.{cell_lines, chunk_lines, function_lines, section_lines, text_in}
+use Rattle.sx_dump.specs.Showing.{chunk_lines, function_lines, list_lines, number_lines, section_lines, text_in}
 
 -- the sections of a function's dump are its function
-pub sections_are : (words : List ℕ) (h : Header) → header_of words ≡ h → h.plan.kind ≡ Func → h.plan.signed ≡ 0 → (f : Function) → f ≡ viewed words 12 (slice_index words 10) (slice_index words 11) → section_lines words ≡ function_lines f
-unfolding section_lines function_line chunk_line entry_line
+pub sections_are : (words : List ℕ) (h : Header) → header_of words ≡ h → h.plan.kind ≡ Func → h.plan.signed ≡ 0 → (f : Function) → f ≡ viewed words 12 (slice_index words 10) (slice_index words 11) → section_lines words ≡ function_lines Values f
+unfolding section_lines function_lines function_line chunk_line entry_line
 sections_are words h is kind signed f same =
     let none : (h.plan.signed == 0) ≡ true = eq-eqb h.plan.signed 0 signed in
     let slots_are : slots h ≡ record { name = codes "values"; rule = λ _. function_of h.keys h.keys 0 64 } ∷ [] =
@@ -21,20 +24,30 @@ sections_are words h is kind signed f same =
     let g = viewed words 12 (slice_index words 10) (slice_index words 11) in
     (λ i. flat_map (λ p. section_text p.0.name p.1) (zip (slots (is i)) (dump_in words).sections))
     ∙ ap (λ (s : List Slot). flat_map (λ p. section_text p.0.name p.1) (zip s (dump_in words).sections)) slots_are
-    ∙ append-nil (function_lines g)
-    ∙ (λ i. function_lines (sym same i))
+    ∙ append-nil (function_lines Values g)
+    ∙ (λ i. function_lines Values (sym same i))
 
--- behind a page that a function's line was put on
-pub behind_page : (old page : List ℕ) (f : Function) (items : List ℕ) (pairs chunks cells : ℕ) → page ≡ old ++ function_line (codes "values") f.width pairs chunks cells
-    → pairs ≡ f.pairs → chunks ≡ length f.chunks → cells ≡ length items → items ≡ f.cells → old ++ function_lines f ≡ (page ++ chunk_lines f.chunks) ++ cell_lines items
-behind_page old page f items pairs chunks cells page_is pairs_are count many are =
-    let n = function_line (codes "values") f.width f.pairs (length f.chunks) (length f.cells) in
-    let of_page : page ≡ old ++ n =
-    page_is ∙ (λ i. old ++ function_line (codes "values") f.width (pairs_are i) (count i) ((many ∙ ap (λ (l : List ℕ). length l) are) i)) in
-    regroup old n (chunk_lines f.chunks) (cell_lines f.cells) ∙ (λ i. (sym of_page i ++ chunk_lines f.chunks) ++ cell_lines (sym are i))
+-- the lines of a function behind others, one part after another
+pub function_behind : (old line : List ℕ) (name : SectionName) (f : Function) (items : List ℕ) (pairs chunks cells : ℕ) → line ≡ function_line (name_text name) f.width pairs chunks cells
+    → pairs ≡ f.pairs → chunks ≡ length f.chunks → cells ≡ length items → items ≡ f.cells → old ++ function_lines name f ≡ ((old ++ line) ++ chunk_lines f.chunks) ++ number_lines (codes "cell") items
+unfolding function_lines
+function_behind old line name f items pairs chunks cells line_is pairs_are count many are =
+    let n = function_line (name_text name) f.width f.pairs (length f.chunks) (length f.cells) in
+    let same : line ≡ n = line_is ∙ (λ i. function_line (name_text name) f.width (pairs_are i) (count i) ((many ∙ ap (λ (l : List ℕ). length l) are) i)) in
+    regroup old n (chunk_lines f.chunks) (number_lines (codes "cell") f.cells)
+    ∙ (λ i. ((old ++ sym same i) ++ chunk_lines f.chunks) ++ number_lines (codes "cell") (sym are i))
   where
     regroup : (a b c d : List ℕ) → a ++ ((b ++ c) ++ d) ≡ ((a ++ b) ++ c) ++ d
     regroup a b c d = simp append_assoc
+
+-- the same of a list
+pub list_behind : (old line : List ℕ) (name : SectionName) (width count : ℕ) (items numbers : List ℕ) → line ≡ list_line (name_text name) count width → count ≡ length items → numbers ≡ items
+    → old ++ list_lines name width items ≡ (old ++ line) ++ number_lines (codes "item") numbers
+unfolding list_lines
+list_behind old line name width count items numbers line_is many are =
+    let n = list_line (name_text name) (length items) width in
+    let same : line ≡ n = line_is ∙ (λ i. list_line (name_text name) (many i) width) in
+    sym (append_assoc old n (number_lines (codes "item") items)) ∙ (λ i. (old ++ sym same i) ++ number_lines (codes "item") (sym are i))
 
 -- the text is the lines of the header, on an empty page, and those of the sections
 pub text_is : (words old page : List ℕ) (h : Header) → header_of words ≡ h → old ≡ [] → page ≡ old ++ header_lines h → text_in words ≡ page ++ section_lines words
