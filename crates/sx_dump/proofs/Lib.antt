@@ -4,6 +4,7 @@ pub mod Pieces
 pub mod Signing
 pub mod Openings
 pub mod Replies
+pub mod Sections
 pub mod Showing
 pub mod ShownPlaces
 pub mod Tables

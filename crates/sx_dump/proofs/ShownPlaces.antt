@@ -7,7 +7,7 @@ use Rattle.std.proofs.lemmas.Slice.Zip.{get_or-zip, length-zip}
 use Rattle.sx_spec_kinds.specs.declared.Kind.{Kind}
 use Rattle.sx_spec_kinds.specs.declared.Kind.TheVariants.{Func, Lcp, Lcp2, Hollow, HollowDist, Zfast}
 use Rattle.sx_spec_strings.specs.First.{first_failing}
-use Rattle.sx_spec.specs.Layout.{Header, Section, SectionRule, Slot, corrections_of, corrections_section, exact_list, function_of, function_section, kind_slots, list_of, list_section, section_checks, section_of, section_size, sections_in, slots, sums_of, sums_section}
+use Rattle.sx_spec.specs.Layout.{Header, Section, SectionRule, Slot, corrections_of, corrections_section, exact_list, function_of, function_section, header_of, kind_slots, list_of, list_section, section_checks, section_of, section_size, sections_in, slots, sums_of, sums_section}
 use Rattle.sx_spec.specs.Show.{section_text}
 use Rattle.sx_spec.specs.StaticFunction.{Function}
 use Rattle.sx_static.specs.Viewing.{viewed}
@@ -19,10 +19,12 @@ use Rattle.sx_sections.specs.declared.place.Place.TheVariants.{Function as Funct
 use Rattle.sx_sections.specs.declared.rule.Slot.{Slot as NamedSlot}
 use Rattle.sx_sections.specs.Lines.{chunk_line, entry_line, function_line, list_line}
 use Rattle.sx_sections.specs.Names.{name_text}
-use Rattle.sx_sections.specs.Places.{section_at}
+use Rattle.sx_sections.specs.Places.{Stands, section_at}
 use Rattle.sx_sections.specs.Rules.{slot_as}
-use Rattle.sx_sections.specs.Walks.{AreFound}
-use Rattle.sx_dump.specs.Showing.{IsShownKind, IsShownPlace, function_lines, list_lines, place_lines, places_lines}
+use Rattle.sx_sections.specs.declared.header.Header.{Header as HeaderBy}
+use Rattle.sx_sections.specs.Offers.{is_offered}
+use Rattle.sx_dump.specs.Opening.{AllStand, IsOpened, sections_read}
+use Rattle.sx_dump.specs.Showing.{IsShownPlace, function_lines, list_lines, place_lines, places_lines}
 
 -- ---- functions and lists
 
@@ -85,6 +87,15 @@ at_places words (ListPlace s ∷ places) all = (tt, at_places words places all.1
 at_places words (Sums s ∷ places) all = absurd all.0
 at_places words (Corrections s ∷ places) all = absurd all.0
 
+-- a kind whose sections are functions and lists
+abbrev IsShownKind : Kind → Type 0
+IsShownKind Func = ⊤
+IsShownKind Lcp = ⊤
+IsShownKind Lcp2 = ⊤
+IsShownKind Hollow = ⊥
+IsShownKind HollowDist = ⊥
+IsShownKind Zfast = ⊥
+
 -- a list of signatures is one
 signatures_shown : (t : Bool) (s : Slot) → ((before : List Section) → IsShownRule (s.rule before)) → AreShownSlots (if t then [] else s ∷ [])
 signatures_shown true s is = tt
@@ -102,14 +113,33 @@ kind_shown Hollow h is = absurd is
 kind_shown HollowDist h is = absurd is
 kind_shown Zfast h is = absurd is
 
--- the places of a dump of a kind with functions and lists alone
-pub places_shown : (h : Header) (words : List ℕ) (places : List Place) → IsShownKind h.plan.kind → AreFound h words places → AllByRecursion IsShownPlace places
-places_shown h words places is found =
-    let signatures : Slot = exact_list (codes "signatures") h.keys h.plan.signed h.plan.signed in
-    let are : AreShownSlots (slots h) =
-    joined (kind_slots h.plan.kind h) (if h.plan.signed == 0 then [] else signatures ∷ []) (kind_shown h.plan.kind h is)
-    (signatures_shown (h.plan.signed == 0) signatures (λ before. tt)) in
-    at_places words places (all_shown (slots h) [] (drop 10 words) (map (section_at words) places) are tt found.sections)
+-- a kind that is offered is one of functions and lists
+offered_shown : (kind : Kind) → is_offered (Func ∷ []) kind ≡ true → IsShownKind kind
+offered_shown Func is = tt
+offered_shown Lcp is = tt
+offered_shown Lcp2 is = tt
+offered_shown Hollow is = absurd cc
+offered_shown HollowDist is = absurd cc
+offered_shown Zfast is = absurd cc
+
+-- the places of what was opened are those of functions and lists
+pub places_shown : (words : List ℕ) (h : HeaderBy) (places : List Place) → IsOpened words h places → AllByRecursion IsShownPlace places
+unfolding sections_read
+places_shown words h places is =
+    let g : Header = header_of words in
+    let kind : IsShownKind g.plan.kind = subst (λ (f : Header). IsShownKind f.plan.kind) (sym is.header) (offered_shown h.plan.kind is.kind) in
+    let signatures : Slot = exact_list (codes "signatures") g.keys g.plan.signed g.plan.signed in
+    let are : AreShownSlots (slots g) =
+    joined (kind_slots g.plan.kind g) (if g.plan.signed == 0 then [] else signatures ∷ []) (kind_shown g.plan.kind g kind)
+    (signatures_shown (g.plan.signed == 0) signatures (λ before. tt)) in
+    at_places words places (all_shown (slots g) [] (drop 10 words) (map (section_at words) places) are tt is.sections)
+
+-- and what is at one of them stands
+pub place_stands : (words : List ℕ) (places : List Place) (i : ℕ) (p : Place) → AllStand words places → slice_get places i ≡ Some p → Stands words p
+place_stands words places i (FunctionPlace s) all at = all.function i s at
+place_stands words places i (ListPlace s) all at = all.list i s at
+place_stands words places i (Sums s) all at = all.sums i s at
+place_stands words places i (Corrections s) all at = all.corrections i s at
 
 -- ---- lines
 

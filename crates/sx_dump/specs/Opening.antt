@@ -1,26 +1,29 @@
--- What the words of a file are as a dump of a static function.
-use Rattle.std.specs.Prelude.{◌≡◌, ℕ, ◌≤◌, true, List, [], ◌∷◌, slice_index, Result, Ok, Err, ⊤}
-use Rattle.sx_fields.specs.declared.section.Section.{Section}
-use Rattle.sx_spec.specs.Layout.{Dump, function_section, header_of, layout}
+-- What the words of a file are as a dump.
+use Rattle.std.specs.Prelude.{◌≡◌, ℕ, ◌≤◌, true, List, [], map, drop, slice_get, Some, Result, Ok, Err}
+use Rattle.std.specs.Result.{result_unwrap_or}
+use Rattle.sx_fields.specs.declared.section.Section.{Section as Packed}
+use Rattle.sx_spec.specs.Layout.{Dump, Section, header_of, layout, sections_in, slots}
 use Rattle.sx_spec_program.specs.Offer.{opened_by}
 use Rattle.sx_spec_program.specs.Program.{sux_offer}
-use Rattle.sx_static.specs.Viewing.{IsViewed, viewed}
-use Rattle.sx_sections.specs.declared.open.Opened.{Opened}
+use Rattle.sx_static.specs.Viewing.{IsViewed}
+use Rattle.sx_sections.specs.declared.header.Header.{Header}
+use Rattle.sx_sections.specs.declared.place.CorrectionsPlace.{CorrectionsPlace}
 use Rattle.sx_sections.specs.declared.place.Place.{Place}
 use Rattle.sx_sections.specs.declared.place.Place.TheVariants.{Function, List as ListPlace, Sums, Corrections}
 use Rattle.sx_sections.specs.Headers.{IsBounded, header_as}
 use Rattle.sx_sections.specs.Offers.{is_offered}
-use Rattle.sx_sections.specs.Openings.{opened_words_by, dump_in as opened_dump}
-use Rattle.sx_sections.specs.Walks.{AreFound}
+use Rattle.sx_sections.specs.Openings.{opened_words_by}
+use Rattle.sx_sections.specs.Places.{IsCorrected, IsListed, IsSummed, section_at}
 use Rattle.sx_dump.specs.declared.open.OpenFault.{OpenFault}
 use Rattle.sx_dump.specs.declared.open.OpenFault.TheVariants.{Malformed, Memory}
 
--- the dump of a static function that words are which pass every check
+-- the sections behind the header of words, in the slots of its kind, or the number of the first check that fails
+unfoldable pub sections_read : List ℕ → Result (List Section) ℕ
+sections_read words = sections_in (slots (header_of words)) [] (drop 10 words)
+
+-- the dump that words are: their header, and the sections behind it, none where a check of them fails
 abbrev pub dump_in : List ℕ → Dump
-dump_in words = record {
-  header = header_of words;
-  sections = function_section (viewed words 12 (slice_index words 10) (slice_index words 11)) ∷ [];
-}
+dump_in words = record { header = header_of words; sections = result_unwrap_or (sections_read words) [] }
 
 -- why a file with these words isn't opened: its first check that fails, or want of memory after every check
 abbrev pub IsFault : List ℕ → List ℕ → OpenFault → Type 0
@@ -41,27 +44,29 @@ IsRefused words bytes Memory = opened_words words bytes ≡ Ok (dump_in words)
 
 -- ---- what was opened
 
--- the header and the places of a dump in words that passed every check, and is offered
-pub record IsOpened (words : List ℕ) (o : Opened) : Type 0 where
-  pub header : header_as o.header ≡ header_of words
-  pub bounded : IsBounded (header_as o.header)
-  pub kind : is_offered sux_offer.kinds o.header.plan.kind ≡ true
-  pub signed : o.header.plan.signed ≤ sux_offer.signed
-  pub places : AreFound (header_as o.header) words o.places.items
-  pub laid : layout (opened_dump words o) ≡ words
+-- a section stands whole in the words at each of the places, by what it is
+pub record AllStand (words : List ℕ) (places : List Place) : Type 0 where
+  pub function : (i : ℕ) (s : Packed) → slice_get places i ≡ Some (Function s) → IsViewed words s.body s.width s.count
+  pub list : (i : ℕ) (s : Packed) → slice_get places i ≡ Some (ListPlace s) → IsListed words s
+  pub sums : (i : ℕ) (s : _) → slice_get places i ≡ Some (Sums s) → IsSummed words s
+  pub corrections : (i : ℕ) (s : CorrectionsPlace) → slice_get places i ≡ Some (Corrections s) → IsCorrected words s
 
--- the place is a function's
-abbrev pub IsFunctionPlace : Place → Type 0
-IsFunctionPlace (Function s) = ⊤
-IsFunctionPlace (ListPlace s) = ⊥
-IsFunctionPlace (Sums s) = ⊥
-IsFunctionPlace (Corrections s) = ⊥
+-- the header, and the places of the sections, of a dump in words that passed every check, and is offered
+pub record IsOpened (words : List ℕ) (h : Header) (places : List Place) : Type 0 where
+  pub header : header_of words ≡ header_as h
+  pub bounded : IsBounded (header_as h)
+  pub kind : is_offered sux_offer.kinds h.plan.kind ≡ true
+  pub signed : h.plan.signed ≤ sux_offer.signed
+  pub sections : sections_read words ≡ Ok (map (section_at words) places)
+  pub stand : AllStand words places
+  pub laid : layout (dump_in words) ≡ words
 
--- the one place is that of the function behind the header
-pub record IsOnlyFunction (words : List ℕ) (places : List Place) : Type 0 where
-  pub section : Section
-  pub only : places ≡ Function section ∷ []
-  pub stands : IsViewed words section.body section.width section.count
-  pub body : section.body ≡ 12
-  pub width : section.width ≡ slice_index words 10
-  pub count : section.count ≡ slice_index words 11
+-- place i is that of a function
+pub record IsFunctionAt (places : List Place) (i : ℕ) : Type 0 where
+  pub section : Packed
+  pub there : slice_get places i ≡ Some (Function section)
+
+-- place i is that of a packed list
+pub record IsListAt (places : List Place) (i : ℕ) : Type 0 where
+  pub section : Packed
+  pub there : slice_get places i ≡ Some (ListPlace section)

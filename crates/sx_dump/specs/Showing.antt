@@ -2,8 +2,6 @@
 use Rattle.std.specs.Prelude.{◌≡◌, ℕ, List, ◌++◌, Option, codes, flat_map, length, map, zip, ⊤}
 use Rattle.std.specs.Io.KnownBytes.{Appends}
 use Rattle.std.specs.List.{enumerate_from}
-use Rattle.sx_spec_kinds.specs.declared.Kind.{Kind}
-use Rattle.sx_spec_kinds.specs.declared.Kind.TheVariants.{Func, Lcp, Lcp2, Hollow, HollowDist, Zfast}
 use Rattle.sx_spec.specs.Layout.{Header, slots}
 use Rattle.sx_spec.specs.Show.{dump_text, section_text}
 use Rattle.sx_spec.specs.StaticFunction.{Chunk, Function}
@@ -53,22 +51,9 @@ IsShownPlace (ListPlace s) = ⊤
 IsShownPlace (Sums s) = ⊥
 IsShownPlace (Corrections s) = ⊥
 
--- a kind with such sections alone
-abbrev pub IsShownKind : Kind → Type 0
-IsShownKind Func = ⊤
-IsShownKind Lcp = ⊤
-IsShownKind Lcp2 = ⊤
-IsShownKind Hollow = ⊥
-IsShownKind HollowDist = ⊥
-IsShownKind Zfast = ⊥
-
 -- the lines of the sections at these places in the words, in the slots of a header
 unfoldable pub places_lines : Header → List ℕ → List Place → List ℕ
 places_lines h words places = flat_map (λ p. section_text p.0.name p.1) (zip (slots h) (map (section_at words) places))
-
--- the lines of the sections of the dump in words
-unfoldable pub section_lines : List ℕ → List ℕ
-section_lines words = flat_map (λ p. section_text p.0.name p.1) (zip (slots (dump_in words).header) (dump_in words).sections)
 
 -- the text of the dump in words
 unfoldable pub text_in : List ℕ → List ℕ

@@ -1,20 +1,30 @@
 -- What answers for a dump, by its kind.
-use Rattle.std.specs.Prelude.{◌≡◌, ℕ, List, slice_index}
+use Rattle.std.specs.Prelude.{◌≡◌, ℕ, List, drop}
 use Rattle.sx_fields.specs.declared.bank.WordBank.{Ghosts}
+use Rattle.sx_fields.specs.declared.packed.Packed.{Packed}
 use Rattle.sx_spec_kinds.specs.declared.Kind.TheVariants.{Func as FuncKind}
-use Rattle.sx_spec.specs.declared.Plan.{Plan}
+use Rattle.sx_spec.specs.Fields.{fields}
+use Rattle.sx_spec.specs.Layout.{header_of}
+use Rattle.sx_spec.specs.Reply.{function_in, numbers_of, section_at}
+use Rattle.sx_static.specs.Viewing.{viewed}
 use Rattle.sx_static.specs.declared.view.FuncView.{FuncView}
+use Rattle.sx_dump.specs.Opening.{dump_in}
 use Rattle.sx_dump.specs.declared.view.View.{View}
 use Rattle.sx_dump.specs.declared.view.View.TheVariants.{Func}
 
--- the function is the one behind the header of a dump of this plan, a function's, in the words
-pub record IsFunctionView {B : Type 0} {bank_of : Ghosts B} (plan : Plan) (words : List ℕ) (v : FuncView B bank_of) : Type 0 where
-  pub kind : plan.kind ≡ FuncKind
-  pub words_are : bank_of.words_of v.bank ≡ words
-  pub first : v.first ≡ 12
-  pub width : v.width ≡ slice_index words 10
-  pub pairs : v.pairs ≡ slice_index words 11
+-- the function that is read is that of section i of the dump in the words
+pub record ReadsFunction {B : Type 0} {bank_of : Ghosts B} (words : List ℕ) (i : ℕ) (v : FuncView B bank_of) : Type 0 where
+  pub function : viewed (bank_of.words_of v.bank) v.first v.width v.pairs ≡ function_in (section_at (dump_in words) i)
 
--- what answers is made from the sections of a dump of this plan in the words: a row for each kind
-pub record IsViewOf {B : Type 0} {bank_of : Ghosts B} (plan : Plan) (words : List ℕ) (view : View B bank_of) : Type 0 where
-  pub func : (v : FuncView B bank_of) → view ≡ Func v → IsFunctionView plan words v
+-- the numbers that are read are those of section i of the dump in the words
+pub record ReadsNumbers {B : Type 0} {bank_of : Ghosts B} (words : List ℕ) (i : ℕ) (p : Packed B bank_of) : Type 0 where
+  pub numbers : fields p.width p.len (drop p.first (bank_of.words_of p.bank)) ≡ numbers_of (dump_in words) i
+
+-- the function is that of a static function's dump in the words
+pub record IsFuncView {B : Type 0} {bank_of : Ghosts B} (words : List ℕ) (v : FuncView B bank_of) : Type 0 where
+  pub kind : (header_of words).plan.kind ≡ FuncKind
+  pub values : ReadsFunction words 0 v
+
+-- what answers is made from the sections of the dump in the words: a row for each kind
+pub record IsViewOf {B : Type 0} {bank_of : Ghosts B} (words : List ℕ) (view : View B bank_of) : Type 0 where
+  pub func : (values : FuncView B bank_of) → view ≡ Func values → IsFuncView words values

@@ -31,14 +31,14 @@ pub enum OpenFault {
     Memory,
 }
 
-/// Opens a file of so many bytes by its words, as a dump of a static function that answers from a
-/// bank of the same words. Where the bytes don't fill the last word, check 1 fails, whatever stands
+/// Opens a file of so many bytes by its words, as a dump that answers from a bank of the same
+/// words. Where the bytes don't fill the last word, check 1 fails, whatever stands
 /// in the rest of it. No memory is taken.
 ///
 /// # Errors
-/// The number of the first check that fails: 1 to 10 of the file's size and its header, where other
-/// kinds than functions fail check 4 and signed dumps check 9; 11 to 15 of the function section; 18
-/// where words follow it.
+/// The number of the first check that fails: 1 to 10 of the file's size and its header, where kinds
+/// that aren't opened fail check 4 and signed dumps check 9; 11 to 17 of the sections; 18 where words
+/// follow them.
 pub fn open_dump<B: WordBank + Copy>(
     _alloc: Global,
     words: &[u64],
@@ -56,7 +56,7 @@ pub fn open_dump<B: WordBank + Copy>(
         → IsFile words.now bytes file → IsFault words.now file fault) }
 {
     match open_offered(words, bytes, &KINDS, SIGNED) {
-        Ok(opened) => Ok(Dump::new(bank, &opened)),
+        Ok(opened) => Ok(Dump::new(bank, opened)),
         Err(check) => Err(OpenFault::Malformed {
             check: check.number(),
         }),

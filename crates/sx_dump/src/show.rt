@@ -9,15 +9,12 @@ ghost use Rattle.sx_spec.specs.Layout.{table_start};
 ghost use Rattle.sx_spec.specs.Show.{dump_text};
 ghost use Rattle.sx_static.specs.Viewing.{IsViewed, viewed};
 ghost use Rattle.sx_edge.specs.Parts.{AppendsPrefix};
-ghost use Rattle.sx_sections.specs.Headers.{IsBounded, header_as};
+ghost use Rattle.sx_sections.specs.Headers.{header_as};
 ghost use Rattle.sx_sections.specs.Places.{IsListed, Stands};
-ghost use Rattle.sx_sections.specs.Walks.{AreFound};
-ghost use Rattle.sx_dump.specs.Opening.{dump_in};
-ghost use Rattle.sx_dump.specs.Showing.{IsShown, IsShownKind, IsShownPlace, chunk_lines, function_lines, list_lines, number_lines, place_lines, places_lines, section_lines, text_in};
-ghost use Rattle.sx_dump.specs.Viewing.{IsFunctionView};
+ghost use Rattle.sx_dump.specs.Opening.{IsOpened, dump_in};
+ghost use Rattle.sx_dump.specs.Showing.{IsShown, IsShownPlace, chunk_lines, function_lines, list_lines, number_lines, place_lines, places_lines, text_in};
 
 use crate::dump::Dump;
-use crate::view::View;
 use std::marker::Brand;
 use std::sync::ledger::{Blank, Ledger};
 use sx_edge::sink::{Sink, write_all};
@@ -235,14 +232,14 @@ fn show_section<B: WordBank + Copy, O: Sink, L: Ledger>(
             show_function(name, &function_in(bank, section), steps, page, out)
         }
         Place::List(section) => show_list(name, section, bank, steps, page, out),
-        // The sections of the kinds that are opened are functions and lists.
+        // No kind that is opened has other sections: a dump of another fails check 4.
         Place::Sums(_) | Place::Corrections(_) => unreachable!(),
     }
 }
 
 /// Puts the lines of the sections at these places, which are those of a dump with this header, behind
 /// the page's text, and writes what finds no room there.
-pub(crate) fn show_places<B: WordBank + Copy, O: Sink, L: Ledger>(
+fn show_places<B: WordBank + Copy, O: Sink, L: Ledger>(
     header: &Header,
     places: &[Place],
     bank: B,
@@ -250,9 +247,7 @@ pub(crate) fn show_places<B: WordBank + Copy, O: Sink, L: Ledger>(
     page: &mut Page,
     out: &mut O,
 ) -> Result<(), Failed>
-    requires bounded { IsBounded (header_as header.now) }
-    requires kind { IsShownKind header.now.plan.kind }
-    requires found { AreFound (header_as header.now) (B.words_of bank) places.now }
+    requires { IsOpened (B.words_of bank) header.now places.now }
     ensures ok { OnOk result (IsShown (O.written out.old) (O.written out.new)
         (page.old.bytes ++ places_lines (header_as header.now) (B.words_of bank) places.now)
         page.new.bytes) }
@@ -270,9 +265,10 @@ pub(crate) fn show_places<B: WordBank + Copy, O: Sink, L: Ledger>(
 }
 
 impl<B: WordBank + Copy> Dump<B> {
-    /// Writes the dump as text: nine lines of its header, a line for its function, one for each
-    /// chunk, and one for each cell, of which there are fewer than 2 to the power 32. At most 4,096
-    /// bytes are held, and no memory is taken.
+    /// Writes the dump as text: nine lines of its header, and a line for each of its sections. Behind
+    /// that of a function comes one for each chunk, and one for each cell; behind that of a list one
+    /// for each number, and of each there are fewer than 2 to the power 32. At most 4,096 bytes are held,
+    /// and no memory is taken.
     ///
     /// # Errors
     ///
@@ -297,45 +293,8 @@ impl<B: WordBank + Copy> Dump<B> {
         let mut steps = Steps::<L>::new(blank);
         let mut page = Page::new();
         put_header(&mut page, &self.header);
-        self.show_sections(&mut steps, &mut page, out)?;
+        let places = self.places.as_slice();
+        show_places(&self.header, places, self.bank, &mut steps, &mut page, out)?;
         write_all(out, page.as_str().as_bytes())
-    }
-
-    /// Puts the lines of the sections behind the page's text, and writes what finds no room there.
-    fn show_sections<O: Sink, L: Ledger>(
-        &self,
-        steps: &mut Steps<L>,
-        page: &mut Page,
-        out: &mut O,
-    ) -> Result<(), Failed>
-        ensures ok { OnOk result (IsShown (O.written out.old) (O.written out.new)
-            (page.old.bytes ++ section_lines (B.words_of self.now.bank)) page.new.bytes) }
-        ensures failed { OnErr result (AppendsPrefix (O.written out.old) (O.written out.new)
-            (page.old.bytes ++ section_lines (B.words_of self.now.bank))) }
-        ensures cause { HasCause (O.faults out.old) (O.faults out.new) result }
-        ensures counted { steps.old ≤ steps.new }
-    {
-        match &self.view {
-            View::Func(values) => self.show_values(values, steps, page, out),
-        }
-    }
-
-    /// The same of a static function.
-    fn show_values<O: Sink, L: Ledger>(
-        &self,
-        values: &FuncView<B>,
-        steps: &mut Steps<L>,
-        page: &mut Page,
-        out: &mut O,
-    ) -> Result<(), Failed>
-        requires { IsFunctionView self.now.header.plan (B.words_of self.now.bank) values.now }
-        ensures ok { OnOk result (IsShown (O.written out.old) (O.written out.new)
-            (page.old.bytes ++ section_lines (B.words_of self.now.bank)) page.new.bytes) }
-        ensures failed { OnErr result (AppendsPrefix (O.written out.old) (O.written out.new)
-            (page.old.bytes ++ section_lines (B.words_of self.now.bank))) }
-        ensures cause { HasCause (O.faults out.old) (O.faults out.new) result }
-        ensures counted { steps.old ≤ steps.new }
-    {
-        show_function(SectionName::Values, values, steps, page, out)
     }
 }

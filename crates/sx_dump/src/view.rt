@@ -1,12 +1,12 @@
 //! What answers for a dump, by its kind, made from the places of its sections.
 
 ghost use Rattle.std.specs.Prelude.{◌≡◌};
-ghost use Rattle.sx_sections.specs.Places.{Stands, place_body, place_count, place_width};
-ghost use Rattle.sx_dump.specs.Opening.{IsFunctionPlace, IsOpened};
-ghost use Rattle.sx_dump.specs.Viewing.{IsViewOf};
+ghost use Rattle.sx_dump.specs.Opening.{IsFunctionAt, IsListAt, IsOpened};
+ghost use Rattle.sx_dump.specs.Viewing.{IsViewOf, ReadsFunction, ReadsNumbers};
 
 use std::alloc::AllocError;
 use sx_fields::bank::WordBank;
+use sx_fields::packed::Packed;
 use sx_sections::open::Opened;
 use sx_sections::place::Place;
 use sx_spec::Kind;
@@ -27,16 +27,13 @@ impl<B: WordBank + Copy> Clone for View<B> {
     }
 }
 
-/// The function whose section stands at a place in the words of a bank.
-fn function_at<B: WordBank + Copy>(bank: B, place: &Place) -> FuncView<B>
-    requires function { IsFunctionPlace place.now }
-    requires stands { Stands (B.words_of bank) place.now }
-    ensures bank { result.bank ≡ bank }
-    ensures first { result.first ≡ place_body place.now }
-    ensures width { result.width ≡ place_width place.now }
-    ensures pairs { result.pairs ≡ place_count place.now }
+/// The function of section `i` of the dump in a bank of words that were opened.
+fn function_at<B: WordBank + Copy>(bank: B, opened: &Opened, i: usize) -> FuncView<B>
+    requires opened { IsOpened (B.words_of bank) opened.now.header opened.now.places.items }
+    requires function { IsFunctionAt opened.now.places.items i }
+    ensures { ReadsFunction (B.words_of bank) i result }
 {
-    match place {
+    match &opened.places.as_slice()[i] {
         Place::Function(section) => {
             FuncView::new(bank, section.body, section.width, section.count as u32)
         }
@@ -44,15 +41,27 @@ fn function_at<B: WordBank + Copy>(bank: B, place: &Place) -> FuncView<B>
     }
 }
 
-/// What answers for the dump in a bank of words that were opened.
-#[tactic(auto, using(crate::proofs::Openings::kind_is))]
-pub fn view_of<B: WordBank + Copy>(bank: B, opened: &Opened) -> View<B>
-    requires { IsOpened (B.words_of bank) opened.now }
-    ensures { IsViewOf opened.now.header.plan (B.words_of bank) result }
+/// The numbers of section `i`, a packed list, of the dump in a bank of words that were opened.
+fn list_at<B: WordBank + Copy>(bank: B, opened: &Opened, i: usize) -> Packed<B>
+    requires opened { IsOpened (B.words_of bank) opened.now.header opened.now.places.items }
+    requires list { IsListAt opened.now.places.items i }
+    ensures { ReadsNumbers (B.words_of bank) i result }
 {
-    let places = opened.places.as_slice();
+    match &opened.places.as_slice()[i] {
+        Place::List(section) => {
+            Packed::new(bank, section.body, section.count as usize, section.width)
+        }
+        Place::Function(_) | Place::Sums(_) | Place::Corrections(_) => unreachable!(),
+    }
+}
+
+/// What answers for the dump in a bank of words that were opened.
+pub fn view_of<B: WordBank + Copy>(bank: B, opened: &Opened) -> View<B>
+    requires { IsOpened (B.words_of bank) opened.now.header opened.now.places.items }
+    ensures { IsViewOf (B.words_of bank) result }
+{
     match opened.header.plan.kind {
-        Kind::Func => View::Func(function_at(bank, &places[0])),
+        Kind::Func => View::Func(function_at(bank, opened, 0)),
         Kind::Lcp | Kind::Lcp2 | Kind::Hollow | Kind::HollowDist | Kind::Zfast => unreachable!(),
     }
 }

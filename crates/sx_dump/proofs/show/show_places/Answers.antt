@@ -1,13 +1,14 @@
-use Rattle.std.proofs.Common.{◌≡◌, ◌+◌, ◌++◌, ◌∷◌, [], ℕ, List, arith, length, length-append, refl, subst, sym, ◌∙◌}
-use Rattle.std.specs.Prelude.{flat_map, zip}
+use Rattle.std.proofs.Common.{◌≡◌, ◌+◌, ◌++◌, ◌∷◌, [], ℕ, List, ap, arith, length, length-append, refl, subst, sym, ◌∙◌}
+use Rattle.std.specs.Prelude.{Some, flat_map, slice_get, zip}
+use Rattle.std.proofs.lemmas.Option.{slice_get-get_or}
 use Rattle.std.specs.List.{AllByRecursion}
 use Rattle.std.proofs.lemmas.Slice.Zip.{length-zip, zip_end, zip_turn}
 use Rattle.sx_edge.specs.Parts.{AppendsPrefix}
 use Rattle.sx_sections.specs.Headers.{header_as}
-use Rattle.sx_sections.specs.Places.{Stands}
+use Rattle.sx_sections.specs.declared.place.Place.{Place}
 use Rattle.sx_dump.specs.Showing.{IsShown, IsShownPlace, place_lines, places_lines}
 use Rattle.sx_dump.proofs.Showing.{at_exit, shown_none, text_cut, text_shown, texts_shown}
-use Rattle.sx_dump.proofs.ShownPlaces.{of_place, places_are, places_shown, zip_item}
+use Rattle.sx_dump.proofs.ShownPlaces.{of_place, places_are, place_stands, places_shown, zip_item}
 use Rattle.sx_dump.proofs.show.show_places.Goals as goal
 
 pub sections-init : goal.sections-init
@@ -43,8 +44,10 @@ show_section-requires-clause-stands g c =
     let turn = zip_turn ks vs c.sections.yielded s c.sections.slot-iterator c.next.new.self c.next.result refl refl c.sections.yielded_by (c.in-Some.slot, c.in-Some.place) c.in-Some.is c.next.ensures.steps in
     let second : c.zip-slot-items.result.b.rest.now ≡ c.args.places.now = c.zip-slot-items.ensures.second.0 in
     let vs_are : vs ≡ c.args.places.now = (λ i. (c.into_iter-slot-iterator.ensures.into_iter_gives i).b.rest.now) ∙ second in
-    let all = subst (AllByRecursion (Stands (g.B.WordBank.words_of c.args.bank))) (sym vs_are) c.requires.found.stand in
-    of_place (Stands (g.B.WordBank.words_of c.args.bank)) vs (length c.sections.yielded) c.in-Some.place.now all turn.1 (turn.3 c.in-Some.place.now)
+    let n = length c.sections.yielded in
+    let at : slice_get vs n ≡ Some c.in-Some.place.now = slice_get-get_or vs n c.in-Some.place.now turn.1 ∙ ap (λ (p : Place). Some p) (sym (turn.3 c.in-Some.place.now)) in
+    place_stands (g.B.WordBank.words_of c.args.bank) c.args.places.now n c.in-Some.place.now c.requires.stand
+    (subst (λ (places : List Place). slice_get places n ≡ Some c.in-Some.place.now) vs_are at)
 
 pub show_section-requires-clause-shown : goal.show_section-requires-clause-shown
 show_section-requires-clause-shown g c =
@@ -55,7 +58,7 @@ show_section-requires-clause-shown g c =
     let second : c.zip-slot-items.result.b.rest.now ≡ c.args.places.now = c.zip-slot-items.ensures.second.0 in
     let vs_are : vs ≡ c.args.places.now = (λ i. (c.into_iter-slot-iterator.ensures.into_iter_gives i).b.rest.now) ∙ second in
     let all = subst (AllByRecursion IsShownPlace) (sym vs_are)
-    (places_shown (header_as c.args.header.now) (g.B.WordBank.words_of c.args.bank) c.args.places.now c.requires.kind c.requires.found) in
+    (places_shown (g.B.WordBank.words_of c.args.bank) c.args.header.now c.args.places.now c.requires) in
     of_place IsShownPlace vs (length c.sections.yielded) c.in-Some.place.now all turn.1 (turn.3 c.in-Some.place.now)
 
 pub returns-in_err-show_section-clause-failed : goal.returns-in_err-show_section-clause-failed

@@ -1,0 +1,311 @@
+-- Which sections the words of a dump hold, by its kind, and where they stand.
+use Rattle.std.proofs.Common.{◌≡◌, ℕ, zero, suc, ◌-◌, ◌^◌, ◌≤◌, Bool, true, false, List, [], ◌∷◌, ◌++◌, length, map, drop, codes, Option, Some, None, Result, Ok, Err, refl, sym, ap, subst, ◌∙◌, arith, append_assoc, append-nil}
+use Rattle.std.specs.Prelude.{◌==◌, ⊤, nat_le, slice_get, slice_index, slice_index_or, if◌then◌else◌}
+use Rattle.std.specs.Int.{is_in_range}
+use Rattle.std.specs.Result.{result_unwrap_or}
+use Rattle.std.proofs.lemmas.Bool.{and_parts, eq-eqb, leb-true}
+use Rattle.std.proofs.lemmas.List.{length-map}
+use Rattle.std.proofs.lemmas.Option.{get_or_from_slice_get}
+use Rattle.sx_fields.specs.declared.section.Section.{Section as Packed}
+use Rattle.sx_fields.proofs.Places.{length-fields}
+use Rattle.sx_spec_kinds.specs.declared.Kind.{Kind}
+use Rattle.sx_spec_kinds.specs.declared.Kind.TheVariants.{Func, Lcp, Lcp2}
+use Rattle.sx_spec_strings.specs.First.{first_failing}
+use Rattle.sx_spec.specs.Kinds.{bucket_count}
+use Rattle.sx_spec.specs.Layout.{Header as HeaderOf, Section, SectionRule, Slot, corrections_of, corrections_section, exact_list, function_checks, function_of, function_section, header_of, item_words, kind_slots, last_section, list_checks, list_of, list_section, section_checks, section_of, section_size, section_width, sections_in, slots, sums_of, sums_section}
+use Rattle.sx_spec.specs.Reply.{function_in, numbers_in, section_at as section_of_dump}
+use Rattle.sx_static.proofs.FunctionSections.{all_true}
+use Rattle.sx_static.specs.Viewing.{viewed}
+use Rattle.sx_spec.specs.Fields.{fields}
+use Rattle.sx_sections.specs.declared.header.Header.{Header}
+use Rattle.sx_sections.specs.declared.place.Place.{Place}
+use Rattle.sx_sections.specs.declared.place.Place.TheVariants.{Function, List as ListPlace, Sums, Corrections}
+use Rattle.sx_sections.specs.Places.{section_at}
+use Rattle.sx_dump.specs.Opening.{IsFunctionAt, IsListAt, IsOpened, dump_in, sections_read}
+
+-- ---- lists
+
+-- a front keeps its elements
+get_front : {X : Type 0} (xs ys : List X) (i : ℕ) (x : X) → slice_get xs i ≡ Some x → slice_get (xs ++ ys) i ≡ Some x
+get_front [] ys i x there = absurd cc
+get_front (y ∷ xs) ys zero x there = there
+get_front (y ∷ xs) ys (suc i) x there = get_front xs ys i x there
+
+-- an element that is mapped
+map_at : {X Y : Type 0} (f : X → Y) (xs : List X) (i : ℕ) (x : X) (d : Y) → slice_get xs i ≡ Some x → slice_index_or (map f xs) i d ≡ f x
+map_at f [] i x d there = absurd cc
+map_at f (y ∷ xs) zero x d there = let same : y ≡ x = cc in ap f same
+map_at f (y ∷ xs) (suc i) x d there = map_at f xs i x d there
+
+-- ---- a section by its rule
+
+-- a number between two
+abbrev pub IsBetween : (low high n : ℕ) → Type 0
+IsBetween low high n = (low ≤ n) × (n ≤ high)
+
+-- the section is of the rule's sort, and so are its count and its width
+abbrev pub FitsRule : SectionRule → Section → Type 0
+FitsRule (function_of least most low high) (function_section f) = IsBetween least most f.pairs × IsBetween low high f.width
+FitsRule (list_of least most low high) (list_section width items) = IsBetween least most (length items) × IsBetween low high width
+FitsRule (sums_of count) (sums_section items) = ⊤
+FitsRule (corrections_of most) (corrections_section sigs) = ⊤
+FitsRule _ _ = ⊥
+
+between : (low high n : ℕ) → is_in_range low high n ≡ true → IsBetween low high n
+between low high n test =
+    let both = and_parts (nat_le low n) (nat_le n high) test in
+    (leb-true low n both.0, leb-true n high both.1)
+
+-- a section that passed its checks fits its rule
+rule_fits : (rule : SectionRule) (words : List ℕ) → first_failing (section_checks rule words) ≡ None → FitsRule rule (section_of rule words)
+rule_fits (function_of least most low high) words passes =
+    let rows = all_true (function_checks least most low high words) passes in
+    (between least most (slice_index words 1) rows.1.0, between low high (slice_index words 0) rows.1.1.0)
+rule_fits (list_of least most low high) words passes =
+    let rows = all_true (list_checks least most low high words) passes in
+    let many : length (fields (slice_index words 1) (slice_index words 0) (item_words words)) ≡ slice_index words 0 = length-fields (slice_index words 1) (slice_index words 0) (item_words words) in
+    (subst (IsBetween least most) (sym many) (between least most (slice_index words 0) rows.1.0), between low high (slice_index words 1) rows.1.1.0)
+rule_fits (sums_of count) words passes = tt
+rule_fits (corrections_of most) words passes = tt
+
+-- ---- sections by their slots
+
+-- the sections after those before fit the slots, one each
+abbrev pub FitSlots : List Slot → (before found : List Section) → Type 0
+FitSlots [] before found = found ≡ []
+FitSlots (slot ∷ rest) before [] = ⊥
+FitSlots (slot ∷ rest) before (x ∷ found) = FitsRule (slot.rule before) x × FitSlots rest (before ++ x ∷ []) found
+
+-- the sections that are found are those before, and others that fit the slots
+pub record AreMore (left : List Slot) (before found : List Section) : Type 0 where
+  pub more : List Section
+  pub split : found ≡ before ++ more
+  pub fit : FitSlots left before more
+
+at_end : (t : Bool) (before found : List Section) → (let r : Result (List Section) ℕ = if t then Ok before else Err 18 in r) ≡ Ok found → AreMore [] before found
+at_end true before found read = record { more = []; split = (let same : before ≡ found = cc in sym same) ∙ sym (append-nil before); fit = refl }
+at_end false before found read = absurd cc
+
+-- one more section was found, where the first check of it that fails is this
+one_more : (slot : Slot) (rest : List Slot) (before found : List Section) (words : List ℕ) (o : Option ℕ) → first_failing (section_checks (slot.rule before) words) ≡ o
+    → (elim o as (λ _. Result (List Section) ℕ) [ Some check ↦ Err check | None ↦ sections_in rest (before ++ section_of (slot.rule before) words ∷ []) (drop (section_size (slot.rule before) words) words) ]) ≡ Ok found
+    → (sections_in rest (before ++ section_of (slot.rule before) words ∷ []) (drop (section_size (slot.rule before) words) words) ≡ Ok found → AreMore rest (before ++ section_of (slot.rule before) words ∷ []) found)
+    → AreMore (slot ∷ rest) before found
+one_more slot rest before found words (Some check) first read go_on = absurd cc
+one_more slot rest before found words None first read go_on =
+    let x = section_of (slot.rule before) words in
+    let others = go_on read in
+    record {
+      more = x ∷ others.more;
+      split = others.split ∙ append_assoc before (x ∷ []) others.more;
+      fit = (rule_fits (slot.rule before) words first, others.fit);
+    }
+
+-- the sections that are found in slots fit them
+pub slots_fit : (left : List Slot) (before found : List Section) (words : List ℕ) → sections_in left before words ≡ Ok found → AreMore left before found
+slots_fit [] before found words read = at_end (length words == 0) before found read
+slots_fit (slot ∷ rest) before found words read =
+    one_more slot rest before found words (first_failing (section_checks (slot.rule before) words)) refl read
+    (λ after. slots_fit rest (before ++ section_of (slot.rule before) words ∷ []) found (drop (section_size (slot.rule before) words) words) after)
+
+-- as many as the slots
+pub fit_count : (left : List Slot) (before found : List Section) → FitSlots left before found → length found ≡ length left
+fit_count [] before found fit = ap (λ (xs : List Section). length xs) fit
+fit_count (slot ∷ rest) before [] fit = absurd fit
+fit_count (slot ∷ rest) before (x ∷ found) fit = let more = fit_count rest (before ++ x ∷ []) found fit.1 in omega arith
+
+-- the one in slot i fits the rule there
+fit_at : (P : Section → Type 0) (left : List Slot) (before found : List Section) (i : ℕ) (slot : Slot) (d : Section) → FitSlots left before found → slice_get left i ≡ Some slot
+    → ((b : List Section) (x : Section) → FitsRule (slot.rule b) x → P x) → P (slice_index_or found i d)
+fit_at P [] before found i slot d fit there gives = absurd cc
+fit_at P (s ∷ rest) before [] i slot d fit there gives = absurd fit
+fit_at P (s ∷ rest) before (x ∷ found) zero slot d fit there gives =
+    let same : s ≡ slot = cc in
+    gives before x (subst (λ (t : Slot). FitsRule (t.rule before) x) same fit.0)
+fit_at P (s ∷ rest) before (x ∷ found) (suc i) slot d fit there gives = fit_at P rest (before ++ x ∷ []) found i slot d fit.1 there gives
+
+-- ---- a section by its sort
+
+-- a function of a count and a width between two
+abbrev pub IsFunctionOf : (least most low high : ℕ) → Section → Type 0
+IsFunctionOf least most low high x = FitsRule (function_of least most low high) x
+
+-- a packed list of so wide numbers at most
+abbrev pub IsNarrowList : ℕ → Section → Type 0
+IsNarrowList high (list_section width items) = width ≤ high
+IsNarrowList high _ = ⊥
+
+narrow_list : (least most low high : ℕ) (x : Section) → FitsRule (list_of least most low high) x → IsNarrowList high x
+narrow_list least most low high (function_section f) fit = absurd fit
+narrow_list least most low high (list_section width items) fit = fit.1.1
+narrow_list least most low high (sums_section items) fit = absurd fit
+narrow_list least most low high (corrections_section sigs) fit = absurd fit
+
+-- the numbers of the function in a section
+function_bounds : (least most low high : ℕ) (x : Section) → IsFunctionOf least most low high x → IsBetween least most (function_in x).pairs × IsBetween low high (function_in x).width
+function_bounds least most low high (function_section f) fit = fit
+function_bounds least most low high (list_section width items) fit = absurd fit
+function_bounds least most low high (sums_section items) fit = absurd fit
+function_bounds least most low high (corrections_section sigs) fit = absurd fit
+
+-- a function alone, in its slot
+alone : (slot : Slot) (xs : List Section) (least most low high : ℕ) → ((b : List Section) → slot.rule b ≡ function_of least most low high) → FitSlots (slot ∷ []) [] xs → xs ≡ function_section (function_in (slice_index_or xs 0 (sums_section []))) ∷ []
+alone slot [] least most low high rule fit = absurd fit
+alone slot (x ∷ xs) least most low high rule fit = first x (subst (λ (r : SectionRule). FitsRule r x) (rule []) fit.0)
+  where
+    first : (y : Section) → IsFunctionOf least most low high y → y ∷ xs ≡ function_section (function_in y) ∷ []
+    first (function_section f) fits = ap (λ ys. function_section f ∷ ys) fit.1
+    first (list_section width items) fits = absurd fits
+    first (sums_section items) fits = absurd fits
+    first (corrections_section sigs) fits = absurd fits
+
+-- ---- places by their sort
+
+-- where a function stands
+function_place : (words : List ℕ) (places : List Place) (i least most low high : ℕ) → IsFunctionOf least most low high (slice_index_or (map (section_at words) places) i (sums_section [])) → IsFunctionAt places i
+function_place words [] i least most low high fit = absurd fit
+function_place words (Function s ∷ places) zero least most low high fit = record { section = s; there = refl }
+function_place words (ListPlace s ∷ places) zero least most low high fit = absurd fit
+function_place words (Sums s ∷ places) zero least most low high fit = absurd fit
+function_place words (Corrections s ∷ places) zero least most low high fit = absurd fit
+function_place words (p ∷ places) (suc i) least most low high fit =
+    let later = function_place words places i least most low high fit in
+    record { section = later.section; there = later.there }
+
+-- where a packed list stands
+list_place : (words : List ℕ) (places : List Place) (i high : ℕ) → IsNarrowList high (slice_index_or (map (section_at words) places) i (sums_section [])) → IsListAt places i
+list_place words [] i high fit = absurd fit
+list_place words (Function s ∷ places) zero high fit = absurd fit
+list_place words (ListPlace s ∷ places) zero high fit = record { section = s; there = refl }
+list_place words (Sums s ∷ places) zero high fit = absurd fit
+list_place words (Corrections s ∷ places) zero high fit = absurd fit
+list_place words (p ∷ places) (suc i) high fit =
+    let later = list_place words places i high fit in
+    record { section = later.section; there = later.there }
+
+-- what was read of a place
+pub place_read : (places read : List Place) (i : ℕ) (p q d : Place) → read ≡ places → slice_get places i ≡ Some p → slice_index_or read i d ≡ q → slice_get places i ≡ Some q
+place_read places read i p q d same there is =
+    there ∙ ap (λ (x : Place). Some x) (sym (get_or_from_slice_get places i p d there) ∙ ap (λ (l : List Place). slice_index_or l i d) (sym same) ∙ is)
+
+-- ---- the dump in words that were opened
+
+module _ (words : List ℕ) (h : Header) (places : List Place) (is : IsOpened words h places) where
+  abbrev head : HeaderOf
+  head = header_of words
+
+  abbrev found : List Section
+  found = map (section_at words) places
+
+  -- its sections are those at the places
+  pub sections_are : (dump_in words).sections ≡ found
+  sections_are = ap (λ (r : Result (List Section) ℕ). result_unwrap_or r []) is.sections
+
+  -- and fit the slots
+  pub sections_fit : FitSlots (slots head) [] found
+  unfolding sections_read
+  sections_fit =
+      let all = slots_fit (slots head) [] found (drop 10 words) is.sections in
+      subst (FitSlots (slots head) []) (sym all.split) all.fit
+
+  -- one for each slot
+  pub places_count : length places ≡ length (slots head)
+  places_count = sym (length-map places (section_at words)) ∙ fit_count (slots head) [] found sections_fit
+
+  -- section i is that at place i
+  pub section_is : (i : ℕ) (p : Place) → slice_get places i ≡ Some p → section_of_dump (dump_in words) i ≡ section_at words p
+  section_is i p there =
+      ap (λ (xs : List Section). slice_index_or xs i (sums_section [])) sections_are
+      ∙ map_at (section_at words) places i p (sums_section []) there
+
+  -- a function there is that of section i
+  pub function_is : (i : ℕ) (s : Packed) → slice_get places i ≡ Some (Function s) → viewed words s.body s.width s.count ≡ function_in (section_of_dump (dump_in words) i)
+  function_is i s there = sym (ap function_in (section_is i (Function s) there))
+
+  -- the numbers of a list there are those of section i
+  pub numbers_are : (i : ℕ) (s : Packed) → slice_get places i ≡ Some (ListPlace s) → fields s.width s.count (drop s.body words) ≡ numbers_in (section_of_dump (dump_in words) i)
+  numbers_are i s there = sym (ap numbers_in (section_is i (ListPlace s) there))
+
+  -- the kind is that of the words
+  pub kind_is : (kind : Kind) → h.plan.kind ≡ kind → head.plan.kind ≡ kind
+  kind_is kind same = ap (λ (g : HeaderOf). g.plan.kind) is.header ∙ same
+
+  -- what the slot of a kind gives of its section
+  slot_gives : (P : Section → Type 0) (kind : Kind) (i : ℕ) (slot : Slot) → head.plan.kind ≡ kind → slice_get (kind_slots kind head) i ≡ Some slot
+      → ((b : List Section) (x : Section) → FitsRule (slot.rule b) x → P x) → P (slice_index_or found i (sums_section []))
+  slot_gives P kind i slot same there gives =
+      let kept : List Slot = (if head.plan.signed == 0 then [] else exact_list (codes "signatures") head.keys head.plan.signed head.plan.signed ∷ []) in
+      let here : slice_get (kind_slots head.plan.kind head) i ≡ Some slot = ap (λ (k : Kind). slice_get (kind_slots k head) i) (same) ∙ there in
+      fit_at P (slots head) [] found i slot (sums_section []) sections_fit (get_front (kind_slots head.plan.kind head) kept i slot here) gives
+
+  -- the slot of a kind for a function
+  function_in_slot : (kind : Kind) (i : ℕ) (name : List ℕ) (least most low high : ℕ) → head.plan.kind ≡ kind
+      → slice_get (kind_slots kind head) i ≡ Some (record { name = name; rule = λ _. function_of least most low high })
+      → IsFunctionOf least most low high (slice_index_or found i (sums_section []))
+  function_in_slot kind i name least most low high same there =
+      slot_gives (IsFunctionOf least most low high) kind i (record { name = name; rule = λ _. function_of least most low high }) same there (λ b x fit. fit)
+
+  -- ---- a row for each section of a kind
+
+  pub func_values : head.plan.kind ≡ Func → IsFunctionOf head.keys head.keys 0 64 (slice_index_or found 0 (sums_section []))
+  func_values same = function_in_slot Func 0 (codes "values") head.keys head.keys 0 64 same refl
+
+  pub lcp_lengths : head.plan.kind ≡ Lcp → IsFunctionOf head.keys head.keys 0 32 (slice_index_or found 0 (sums_section []))
+  lcp_lengths same = function_in_slot Lcp 0 (codes "lengths") head.keys head.keys 0 32 same refl
+
+  pub lcp_prefixes : head.plan.kind ≡ Lcp → IsFunctionOf (bucket_count head.plan head.keys) (bucket_count head.plan head.keys) 0 32 (slice_index_or found 1 (sums_section []))
+  lcp_prefixes same = function_in_slot Lcp 1 (codes "prefixes") (bucket_count head.plan head.keys) (bucket_count head.plan head.keys) 0 32 same refl
+
+  pub lcp2_offsets : head.plan.kind ≡ Lcp2 → IsFunctionOf head.keys head.keys 0 32 (slice_index_or found 0 (sums_section []))
+  lcp2_offsets same = function_in_slot Lcp2 0 (codes "offsets") head.keys head.keys 0 32 same refl
+
+  pub lcp2_codes : head.plan.kind ≡ Lcp2 → IsFunctionOf head.keys head.keys 0 32 (slice_index_or found 1 (sums_section []))
+  lcp2_codes same = function_in_slot Lcp2 1 (codes "codes") head.keys head.keys 0 32 same refl
+
+  pub lcp2_table : head.plan.kind ≡ Lcp2 → IsNarrowList 32 (slice_index_or found 2 (sums_section []))
+  lcp2_table same =
+      slot_gives (IsNarrowList 32) Lcp2 2 (record { name = codes "table"; rule = λ before. list_of 0 (2 ^ section_width (last_section before) - 1) 0 32 }) same refl
+      (λ b x fit. narrow_list 0 (2 ^ section_width (last_section b) - 1) 0 32 x fit)
+
+  pub lcp2_escaped : head.plan.kind ≡ Lcp2 → IsFunctionOf 0 head.keys 0 32 (slice_index_or found 3 (sums_section []))
+  lcp2_escaped same = function_in_slot Lcp2 3 (codes "escaped") 0 head.keys 0 32 same refl
+
+  pub lcp2_prefixes : head.plan.kind ≡ Lcp2 → IsFunctionOf (bucket_count head.plan head.keys) (bucket_count head.plan head.keys) 0 32 (slice_index_or found 4 (sums_section []))
+  lcp2_prefixes same = function_in_slot Lcp2 4 (codes "prefixes") (bucket_count head.plan head.keys) (bucket_count head.plan head.keys) 0 32 same refl
+
+  -- ---- what such a row says
+
+  -- where its function stands
+  pub function_there : (i least most low high : ℕ) → IsFunctionOf least most low high (slice_index_or found i (sums_section [])) → IsFunctionAt places i
+  function_there i least most low high row = function_place words places i least most low high row
+
+  -- and where its list does
+  pub list_there : (i high : ℕ) → IsNarrowList high (slice_index_or found i (sums_section [])) → IsListAt places i
+  list_there i high row = list_place words places i high row
+
+  -- how many pairs that function has, and how wide it is
+  pub bounds_there : (i least most low high : ℕ) → IsFunctionOf least most low high (slice_index_or found i (sums_section []))
+      → IsBetween least most (function_in (section_of_dump (dump_in words) i)).pairs × IsBetween low high (function_in (section_of_dump (dump_in words) i)).width
+  bounds_there i least most low high row =
+      let same : section_of_dump (dump_in words) i ≡ slice_index_or found i (sums_section []) = ap (λ (xs : List Section). slice_index_or xs i (sums_section [])) sections_are in
+      subst (λ (x : Section). IsBetween least most (function_in x).pairs × IsBetween low high (function_in x).width) (sym same)
+      (function_bounds least most low high (slice_index_or found i (sums_section [])) row)
+
+  -- ---- without signatures
+
+  pub unsigned : head.plan.signed ≡ 0
+  unsigned =
+      let most : h.plan.signed ≤ 0 = is.signed in
+      let none : h.plan.signed ≡ 0 = omega arith in
+      ap (λ (g : HeaderOf). g.plan.signed) is.header ∙ none
+
+  -- a static function's dump has its function alone
+  pub only_values : head.plan.kind ≡ Func → (dump_in words).sections ≡ function_section (function_in (section_of_dump (dump_in words) 0)) ∷ []
+  only_values same =
+      let none : (head.plan.signed == 0) ≡ true = eq-eqb head.plan.signed 0 unsigned in
+      let slot : Slot = record { name = codes "values"; rule = λ _. function_of head.keys head.keys 0 64 } in
+      let slots_are : slots head ≡ slot ∷ [] =
+      (λ i. kind_slots (same i) head ++ (if none i then [] else exact_list (codes "signatures") head.keys head.plan.signed head.plan.signed ∷ [])) in
+      let fit : FitSlots (slot ∷ []) [] (dump_in words).sections =
+      subst (FitSlots (slot ∷ []) []) (sym sections_are) (subst (λ (s : List Slot). FitSlots s [] found) slots_are sections_fit) in
+      alone slot (dump_in words).sections head.keys head.keys 0 64 (λ b. refl) fit
