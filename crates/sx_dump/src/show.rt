@@ -118,8 +118,8 @@ fn show_chunks<B: WordBank + Copy, O: Sink, L: Ledger>(
     Ok(())
 }
 
-/// Puts a line for each number, under a word of at most 32 bytes, behind the page's text, and writes
-/// what finds no room there.
+/// Puts a line for each number, under a word of at most 32 bytes, behind the page's text, and
+/// writes what finds no room there.
 fn show_numbers<B: WordBank + Copy, O: Sink, L: Ledger>(
     word: &str,
     numbers: &Packed<B>,
@@ -173,7 +173,8 @@ fn show_function<B: WordBank + Copy, O: Sink, L: Ledger>(
     show_numbers("cell", &cells, steps, page, out)
 }
 
-/// Puts the lines of a list of this name behind the page's text, and writes what finds no room there.
+/// Puts the lines of a list of this name behind the page's text, and writes what finds no room
+/// there.
 fn show_list<B: WordBank + Copy, O: Sink, L: Ledger>(
     name: SectionName,
     list: &Section,
@@ -237,8 +238,8 @@ fn show_section<B: WordBank + Copy, O: Sink, L: Ledger>(
     }
 }
 
-/// Puts the lines of the sections at these places, which are those of a dump with this header, behind
-/// the page's text, and writes what finds no room there.
+/// Puts the lines of the sections at these places, which are those of a dump with this header,
+/// behind the page's text, and writes what finds no room there.
 fn show_places<B: WordBank + Copy, O: Sink, L: Ledger>(
     header: &Header,
     places: &[Place],
@@ -265,10 +266,10 @@ fn show_places<B: WordBank + Copy, O: Sink, L: Ledger>(
 }
 
 impl<B: WordBank + Copy> Dump<B> {
-    /// Writes the dump as text: nine lines of its header, and a line for each of its sections. Behind
-    /// that of a function comes one for each chunk, and one for each cell; behind that of a list one
-    /// for each number, and of each there are fewer than 2 to the power 32. At most 4,096 bytes are held,
-    /// and no memory is taken.
+    /// Writes the dump as text: nine lines of its header, and a line for each of its sections.
+    /// Behind that of a function comes one for each chunk, and one for each cell; behind that of a
+    /// list one for each number; of each there are fewer than 2 to the power 32. At most 4,096
+    /// bytes are held, and no memory is taken.
     ///
     /// # Errors
     ///
