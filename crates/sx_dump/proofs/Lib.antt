@@ -10,6 +10,7 @@ pub mod Openings
 pub mod Replies
 pub mod Sections
 pub mod Showing
+pub mod ShownPlaces
 pub mod Tables
 pub mod Texts
 pub mod WordPieces

@@ -1,5 +1,5 @@
 -- What a loop over lines has written so far, and what it holds.
-use Rattle.std.proofs.Common.{◌≡◌, ℕ, zero, suc, ◌+◌, ◌<◌, ◌≤◌, length, subst, List, [], ◌∷◌, ◌++◌, Option, Some, take, sym, ap, ◌∙◌, refl, arith, append_assoc, append-nil}
+use Rattle.std.proofs.Common.{◌≡◌, ℕ, zero, suc, ◌+◌, ◌<◌, ◌≤◌, length, subst, List, [], ◌∷◌, ◌++◌, Option, Some, None, take, sym, ap, ◌∙◌, refl, arith, append_assoc, append-nil}
 use Rattle.std.specs.Prelude.{flat_map, slice_get, slice_index, Result, Ok, Err, OnOk, OnErr}
 use Rattle.std.specs.List.{enumerate_from}
 use Rattle.std.proofs.lemmas.List.{take_all}
@@ -10,6 +10,19 @@ use Rattle.sx_edge.specs.Parts.{AppendsPrefix}
 use Rattle.sx_dump.specs.Showing.{IsShown}
 
 -- ---- what is shown
+
+-- nothing yet
+pub shown_none : (a : Option (List ℕ)) (held : List ℕ) → IsShown a a (held ++ []) held
+shown_none a held = record { part = []; split = append-nil held; written = appends_none a }
+  where
+    appends_none : (a : Option (List ℕ)) → Appends a a []
+    appends_none None = tt
+    appends_none (Some xs) = sym (append-nil xs)
+
+-- a fact that holds at an exit
+pub at_exit : {T E : Type 0} (r : Result T E) {Q : Type 0} → Q → OnErr r Q
+at_exit (Ok x) q = tt
+at_exit (Err e) q = q
 
 -- one after the other
 pub shown_on : {a b : Option (List ℕ)} {text held : List ℕ} (c : Option (List ℕ)) (more rest : List ℕ) → IsShown a b text held → IsShown b c (held ++ more) rest → IsShown a c (text ++ more) rest
@@ -28,6 +41,14 @@ shown_line {a} {b} {c} {text} {held} {rest} line more whole first next put is = 
 } where
   regroup : (p q r l : List ℕ) → (p ++ (q ++ r)) ++ l ≡ (p ++ q) ++ (r ++ l)
   regroup p q r l = simp append_assoc
+
+-- a line put on what is held
+pub shown_put : {a b : Option (List ℕ)} {text held : List ℕ} (line more : List ℕ) → IsShown a b text held → more ≡ held ++ line → IsShown a b (text ++ line) more
+shown_put {a} {b} {text} {held} line more first put = record {
+  part = first.part;
+  split = ap (λ l. l ++ line) first.split ∙ append_assoc first.part held line ∙ ap (λ l. first.part ++ l) (sym put);
+  written = first.written;
+}
 
 -- what is held is cut off by a failure
 pub shown_cut : {a b : Option (List ℕ)} {text held : List ℕ} (c : Option (List ℕ)) (whole : List ℕ) → IsShown a b text held → AppendsPrefix b c held → IsPrefix text whole → AppendsPrefix a c whole
@@ -128,3 +149,66 @@ pub end_cut : {T E : Type 0} (r : Result T E) (a b c : Option (List ℕ)) (text 
 end_cut (Ok x) a b c text held bytes whole is same first cut = tt
 end_cut (Err e) a b c text held bytes whole is same first cut =
     shown_cut {a = a} {b = b} {text = text} {held = held} c whole first (subst (AppendsPrefix b c) same cut) ([], is ∙ sym (append-nil text))
+
+-- a failure before the end of a longer text
+pub cut_longer : (a b : Option (List ℕ)) (text whole : List ℕ) → AppendsPrefix a b text → IsPrefix text whole → AppendsPrefix a b whole
+cut_longer a b text whole (part, (rest, split), after) (more, is) = (part, (rest ++ more, is ∙ ap (λ l. l ++ more) split ∙ append_assoc part rest more), after)
+
+-- ---- a loop over texts
+
+-- one more
+texts_more : {X : Type 0} (lines : X → List ℕ) (i : ℕ) (x : X) (xs : List X) → slice_get xs i ≡ Some x → flat_map lines (take (suc i) xs) ≡ flat_map lines (take i xs) ++ lines x
+texts_more {X} lines i x [] at = absurd cc
+texts_more {X} lines zero x (y ∷ xs) at = let same : y ≡ x = cc in append-nil (lines y) ∙ (λ k. lines (same k))
+texts_more {X} lines (suc i) x (y ∷ xs) at =
+    ap (λ l. lines y ++ l) (texts_more lines i x xs at) ∙ sym (append_assoc (lines y) (flat_map lines (take i xs)) (lines x))
+
+-- the first are a prefix of all
+texts_front : {X : Type 0} (lines : X → List ℕ) (i : ℕ) (xs : List X) → IsPrefix (flat_map lines (take i xs)) (flat_map lines xs)
+texts_front {X} lines zero xs = (flat_map lines xs, refl)
+texts_front {X} lines (suc i) [] = ([], refl)
+texts_front {X} lines (suc i) (y ∷ xs) =
+    let (rest, is) = texts_front lines i xs in
+    (rest, ap (λ l. lines y ++ l) is ∙ sym (append_assoc (lines y) (flat_map lines (take i xs)) rest))
+
+module _ {X : Type 0} (lines : X → List ℕ) (front : List ℕ) (xs : List X) (i : ℕ) where
+  -- the texts up to one
+  abbrev up_to : ℕ → List ℕ
+  up_to n = front ++ flat_map lines (take n xs)
+
+  next_text : (n : ℕ) (x : X) → n ≡ i + 1 → slice_get xs i ≡ Some x → up_to n ≡ up_to i ++ lines x
+  next_text n x next at =
+      let e : n ≡ suc i = omega arith in
+      behind_front front (flat_map lines (take i xs)) (lines x) (flat_map lines (take n xs))
+      (ap (λ m. flat_map lines (take m xs)) e ∙ texts_more lines i x xs at)
+
+  -- one more is shown
+  pub text_shown : (n : ℕ) (a b c : Option (List ℕ)) (x : X) (held more : List ℕ) → n ≡ i + 1 → IsShown a b (up_to i) held → IsShown b c (held ++ lines x) more → slice_get xs i ≡ Some x → IsShown a c (up_to n) more
+  text_shown n a b c x held more next first then at =
+      subst (λ (whole : List ℕ). IsShown a c whole more) (sym (next_text n x next at))
+      (shown_on {a = a} {b = b} {text = up_to i} {held = held} c (lines x) more first then)
+
+  -- one more fails
+  pub text_cut : (a b c : Option (List ℕ)) (x : X) (held : List ℕ) → IsShown a b (up_to i) held → AppendsPrefix b c (held ++ lines x) → slice_get xs i ≡ Some x → AppendsPrefix a c (front ++ flat_map lines xs)
+  text_cut a b c x held first cut at =
+      cut_longer a c (up_to (i + 1)) (front ++ flat_map lines xs)
+      (subst (AppendsPrefix a c) (sym (next_text (i + 1) x refl at)) (then_cut {a = a} {b = b} {text = up_to i} {held = held} c (lines x) first cut))
+      (front_behind front (flat_map lines (take (i + 1) xs)) (flat_map lines xs) (texts_front lines (i + 1) xs))
+
+  -- after the last one
+  pub texts_shown : (a b : Option (List ℕ)) (held : List ℕ) → length xs ≤ i → IsShown a b (up_to i) held → IsShown a b (front ++ flat_map lines xs) held
+  texts_shown a b held end shown = subst (λ (ys : List X). IsShown a b (front ++ flat_map lines ys) held) (take_all i xs end) shown
+
+-- ---- a last part
+
+-- it was shown behind what is held
+pub last_shown : {T E : Type 0} (r : Result T E) (a b c : Option (List ℕ)) (text held more rest whole : List ℕ) → whole ≡ text ++ more → IsShown a b text held → OnOk r (IsShown b c (held ++ more) rest) → OnOk r (IsShown a c whole rest)
+last_shown (Ok x) a b c text held more rest whole is first last =
+    subst (λ (l : List ℕ). IsShown a c l rest) (sym is) (shown_on {a = a} {b = b} {text = text} {held = held} c more rest first last)
+last_shown (Err e) a b c text held more rest whole is first last = tt
+
+-- or a prefix of it was
+pub last_cut : {T E : Type 0} (r : Result T E) (a b c : Option (List ℕ)) (text held more whole : List ℕ) → whole ≡ text ++ more → IsShown a b text held → OnErr r (AppendsPrefix b c (held ++ more)) → OnErr r (AppendsPrefix a c whole)
+last_cut (Ok x) a b c text held more whole is first cut = tt
+last_cut (Err e) a b c text held more whole is first cut =
+    subst (AppendsPrefix a c) (sym is) (then_cut {a = a} {b = b} {text = text} {held = held} c more first cut)

@@ -1,19 +1,20 @@
 //! A dump as text, written as it is made: only a page of it is held, and no memory is taken.
 
-ghost use Rattle.std.specs.Prelude.{◌≡◌, ◌+◌, ◌<◌, ◌≤◌, ◌++◌, OnOk, OnErr, Some, length, slice_get};
+ghost use Rattle.std.specs.Prelude.{◌≡◌, ◌+◌, ◌<◌, ◌≤◌, ◌++◌, OnOk, OnErr, Some, drop, length, slice_get};
 ghost use Rattle.std.specs.Io.KnownBytes.{Appends};
 ghost use Rattle.sx_spec.specs.Causes.{HasCause};
 ghost use Rattle.sx_spec.specs.Chunks.{chunk_count as chunk_count_of};
+ghost use Rattle.sx_spec.specs.Fields.{fields};
 ghost use Rattle.sx_spec.specs.Layout.{table_start};
 ghost use Rattle.sx_spec.specs.Show.{dump_text};
-ghost use Rattle.sx_static.specs.Viewing.{viewed};
+ghost use Rattle.sx_static.specs.Viewing.{IsViewed, viewed};
 ghost use Rattle.sx_edge.specs.Parts.{AppendsPrefix};
-ghost use Rattle.sx_dump.specs.Opening.{dump_in};
-ghost use Rattle.sx_dump.specs.Showing.{IsShown, cell_lines, chunk_lines, function_lines, section_lines, text_in};
-ghost use Rattle.sx_dump.specs.Viewing.{IsFuncView};
+ghost use Rattle.sx_sections.specs.Headers.{header_as};
+ghost use Rattle.sx_sections.specs.Places.{IsListed, Stands};
+ghost use Rattle.sx_dump.specs.Opening.{IsOpened, dump_in};
+ghost use Rattle.sx_dump.specs.Showing.{IsShown, IsShownPlace, chunk_lines, function_lines, list_lines, number_lines, place_lines, places_lines, text_in};
 
 use crate::dump::Dump;
-use crate::view::View;
 use std::marker::Brand;
 use std::sync::ledger::{Blank, Ledger};
 use sx_edge::sink::{Sink, write_all};
@@ -21,8 +22,12 @@ use sx_edge::source::Failed;
 use sx_fields::bank::WordBank;
 use sx_fields::fields::Fields;
 use sx_fields::packed::Packed;
-use sx_sections::lines::{Page, Sizes, put_chunk, put_entry, put_function, put_header};
+use sx_fields::section::Section;
+use sx_sections::header::Header;
+use sx_sections::lines::{Page, Sizes, put_chunk, put_entry, put_function, put_header, put_list};
 use sx_sections::name::SectionName;
+use sx_sections::place::Place;
+use sx_sections::slots::slots;
 use sx_sig::chunk_bits;
 use sx_static::FuncView;
 use sx_steps::Steps;
@@ -43,10 +48,7 @@ fn make_room<O: Sink>(page: &mut Page, out: &mut O) -> Result<(), Failed>
     if page.remaining_capacity() >= LINE {
         return Ok(());
     }
-    match write_all(out, page.as_str().as_bytes()) {
-        Ok(()) => {}
-        Err(Failed) => return Err(Failed),
-    }
+    write_all(out, page.as_str().as_bytes())?;
     page.clear();
     Ok(())
 }
@@ -109,56 +111,53 @@ fn show_chunks<B: WordBank + Copy, O: Sink, L: Ledger>(
     ensures counted { steps.old ≤ steps.new }
 {
     'chunks: for i in 0..chunk_count(values.pairs) {
-        match make_room(page, out) {
-            Ok(()) => {}
-            Err(Failed) => return Err(Failed),
-        }
+        make_room(page, out)?;
         let (segment, try_number) = chunk_at(values, i, steps);
         put_chunk(page, i as u64, segment, try_number);
     }
     Ok(())
 }
 
-/// Puts a line for each cell behind the page's text, and writes what finds no room there.
-fn show_cells<B: WordBank + Copy, O: Sink, L: Ledger>(
-    cells: &Packed<B>,
+/// Puts a line for each number, under a word of at most 32 bytes, behind the page's text, and
+/// writes what finds no room there.
+fn show_numbers<B: WordBank + Copy, O: Sink, L: Ledger>(
+    word: &str,
+    numbers: &Packed<B>,
     steps: &mut Steps<L>,
     page: &mut Page,
     out: &mut O,
 ) -> Result<(), Failed>
+    requires { length word.now ≤ 32 }
     ensures ok { OnOk result (IsShown (O.written out.old) (O.written out.new)
-        (page.old.bytes ++ cell_lines (⟦<Packed<B> as Fields>⟧.items cells.now))
+        (page.old.bytes ++ number_lines word.now (⟦<Packed<B> as Fields>⟧.items numbers.now))
         page.new.bytes) }
     ensures failed { OnErr result (AppendsPrefix (O.written out.old) (O.written out.new)
-        (page.old.bytes ++ cell_lines (⟦<Packed<B> as Fields>⟧.items cells.now))) }
+        (page.old.bytes ++ number_lines word.now (⟦<Packed<B> as Fields>⟧.items numbers.now))) }
     ensures cause { HasCause (O.faults out.old) (O.faults out.new) result }
     ensures counted { steps.old ≤ steps.new }
 {
-    'cells: for i in 0..cells.len() {
-        match make_room(page, out) {
-            Ok(()) => {}
-            Err(Failed) => return Err(Failed),
-        }
-        put_entry(page, "cell", i as u64, cells.read(i, steps));
+    'numbers: for i in 0..numbers.len() {
+        make_room(page, out)?;
+        put_entry(page, word, i as u64, numbers.read(i, steps));
     }
     Ok(())
 }
 
-/// Puts the lines of a function behind the page's text, which leaves room for one, and writes what
-/// finds no room there.
+/// Puts the lines of a function of this name behind the page's text, and writes what finds no room
+/// there.
 fn show_function<B: WordBank + Copy, O: Sink, L: Ledger>(
+    name: SectionName,
     values: &FuncView<B>,
     steps: &mut Steps<L>,
     page: &mut Page,
     out: &mut O,
 ) -> Result<(), Failed>
-    requires room { length page.old.bytes + 256 ≤ 4096 }
     ensures ok { OnOk result (IsShown (O.written out.old) (O.written out.new)
-        (page.old.bytes ++ function_lines (viewed (B.words_of values.now.bank)
+        (page.old.bytes ++ function_lines name (viewed (B.words_of values.now.bank)
         values.now.first values.now.width values.now.pairs))
         page.new.bytes) }
     ensures failed { OnErr result (AppendsPrefix (O.written out.old) (O.written out.new)
-        (page.old.bytes ++ function_lines (viewed (B.words_of values.now.bank)
+        (page.old.bytes ++ function_lines name (viewed (B.words_of values.now.bank)
         values.now.first values.now.width values.now.pairs))) }
     ensures cause { HasCause (O.faults out.old) (O.faults out.new) result }
     ensures counted { steps.old ≤ steps.new }
@@ -168,26 +167,108 @@ fn show_function<B: WordBank + Copy, O: Sink, L: Ledger>(
         chunks: chunk_count(values.pairs) as u64,
         cells: cells.len() as u64,
     };
-    put_function(
-        page,
-        SectionName::Values,
-        values.width,
-        u64::from(values.pairs),
-        sizes,
-    );
-    match show_chunks(values, steps, page, out) {
-        Ok(()) => {}
-        Err(Failed) => return Err(Failed),
-    }
-    match show_cells(&cells, steps, page, out) {
-        Ok(()) => Ok(()),
-        Err(Failed) => Err(Failed),
+    make_room(page, out)?;
+    put_function(page, name, values.width, u64::from(values.pairs), sizes);
+    show_chunks(values, steps, page, out)?;
+    show_numbers("cell", &cells, steps, page, out)
+}
+
+/// Puts the lines of a list of this name behind the page's text, and writes what finds no room
+/// there.
+fn show_list<B: WordBank + Copy, O: Sink, L: Ledger>(
+    name: SectionName,
+    list: &Section,
+    bank: B,
+    steps: &mut Steps<L>,
+    page: &mut Page,
+    out: &mut O,
+) -> Result<(), Failed>
+    requires { IsListed (B.words_of bank) list.now }
+    ensures ok { OnOk result (IsShown (O.written out.old) (O.written out.new)
+        (page.old.bytes ++ list_lines name list.now.width
+        (fields list.now.width list.now.count (drop list.now.body (B.words_of bank))))
+        page.new.bytes) }
+    ensures failed { OnErr result (AppendsPrefix (O.written out.old) (O.written out.new)
+        (page.old.bytes ++ list_lines name list.now.width
+        (fields list.now.width list.now.count (drop list.now.body (B.words_of bank))))) }
+    ensures cause { HasCause (O.faults out.old) (O.faults out.new) result }
+    ensures counted { steps.old ≤ steps.new }
+{
+    let numbers = Packed::new(bank, list.body, list.count as usize, list.width);
+    make_room(page, out)?;
+    put_list(page, name, list.count, list.width);
+    show_numbers("item", &numbers, steps, page, out)
+}
+
+/// The function whose section lies there in the words of a bank.
+fn function_in<B: WordBank + Copy>(bank: B, section: &Section) -> FuncView<B>
+    requires { IsViewed (B.words_of bank) section.now.body section.now.width section.now.count }
+    ensures { viewed (B.words_of result.bank) result.first result.width result.pairs
+        ≡ viewed (B.words_of bank) section.now.body section.now.width section.now.count }
+{
+    FuncView::new(bank, section.body, section.width, section.count as u32)
+}
+
+/// Puts the lines of the section of this name that stands at a place behind the page's text, and
+/// writes what finds no room there.
+fn show_section<B: WordBank + Copy, O: Sink, L: Ledger>(
+    name: SectionName,
+    place: &Place,
+    bank: B,
+    steps: &mut Steps<L>,
+    page: &mut Page,
+    out: &mut O,
+) -> Result<(), Failed>
+    requires stands { Stands (B.words_of bank) place.now }
+    requires shown { IsShownPlace place.now }
+    ensures ok { OnOk result (IsShown (O.written out.old) (O.written out.new)
+        (page.old.bytes ++ place_lines (B.words_of bank) name place.now) page.new.bytes) }
+    ensures failed { OnErr result (AppendsPrefix (O.written out.old) (O.written out.new)
+        (page.old.bytes ++ place_lines (B.words_of bank) name place.now)) }
+    ensures cause { HasCause (O.faults out.old) (O.faults out.new) result }
+    ensures counted { steps.old ≤ steps.new }
+{
+    match place {
+        Place::Function(section) => {
+            show_function(name, &function_in(bank, section), steps, page, out)
+        }
+        Place::List(section) => show_list(name, section, bank, steps, page, out),
+        // No kind that is opened has other sections: a dump of another fails check 4.
+        Place::Sums(_) | Place::Corrections(_) => unreachable!(),
     }
 }
 
+/// Puts the lines of the sections at these places, which are those of a dump with this header,
+/// behind the page's text, and writes what finds no room there.
+fn show_places<B: WordBank + Copy, O: Sink, L: Ledger>(
+    header: &Header,
+    places: &[Place],
+    bank: B,
+    steps: &mut Steps<L>,
+    page: &mut Page,
+    out: &mut O,
+) -> Result<(), Failed>
+    requires { IsOpened (B.words_of bank) header.now places.now }
+    ensures ok { OnOk result (IsShown (O.written out.old) (O.written out.new)
+        (page.old.bytes ++ places_lines (header_as header.now) (B.words_of bank) places.now)
+        page.new.bytes) }
+    ensures failed { OnErr result (AppendsPrefix (O.written out.old) (O.written out.new)
+        (page.old.bytes ++ places_lines (header_as header.now) (B.words_of bank) places.now)) }
+    ensures cause { HasCause (O.faults out.old) (O.faults out.new) result }
+    ensures counted { steps.old ≤ steps.new }
+{
+    let all = slots(header);
+    let listed = all.as_slice();
+    'sections: for (slot, place) in listed.iter().zip(places) {
+        show_section(slot.name, place, bank, steps, page, out)?;
+    }
+    Ok(())
+}
+
 impl<B: WordBank + Copy> Dump<B> {
-    /// Writes the dump as text: nine lines of its header, a line for its function, one for each
-    /// chunk, and one for each cell, of which there are fewer than 2 to the power 32. At most 4,096
+    /// Writes the dump as text: nine lines of its header, and a line for each of its sections.
+    /// Behind that of a function comes one for each chunk, and one for each cell; behind that of a
+    /// list one for each number; of each there are fewer than 2 to the power 32. At most 4,096
     /// bytes are held, and no memory is taken.
     ///
     /// # Errors
@@ -213,51 +294,8 @@ impl<B: WordBank + Copy> Dump<B> {
         let mut steps = Steps::<L>::new(blank);
         let mut page = Page::new();
         put_header(&mut page, &self.header);
-        match self.show_sections(&mut steps, &mut page, out) {
-            Ok(()) => {}
-            Err(Failed) => return Err(Failed),
-        }
+        let places = self.places.as_slice();
+        show_places(&self.header, places, self.bank, &mut steps, &mut page, out)?;
         write_all(out, page.as_str().as_bytes())
-    }
-
-    /// Puts the lines of the sections behind the page's text, which leaves room for one, and writes
-    /// what finds no room there.
-    fn show_sections<O: Sink, L: Ledger>(
-        &self,
-        steps: &mut Steps<L>,
-        page: &mut Page,
-        out: &mut O,
-    ) -> Result<(), Failed>
-        requires room { length page.old.bytes + 256 ≤ 4096 }
-        ensures ok { OnOk result (IsShown (O.written out.old) (O.written out.new)
-            (page.old.bytes ++ section_lines (B.words_of self.now.bank)) page.new.bytes) }
-        ensures failed { OnErr result (AppendsPrefix (O.written out.old) (O.written out.new)
-            (page.old.bytes ++ section_lines (B.words_of self.now.bank))) }
-        ensures cause { HasCause (O.faults out.old) (O.faults out.new) result }
-        ensures counted { steps.old ≤ steps.new }
-    {
-        match &self.view {
-            View::Func(values) => self.show_values(values, steps, page, out),
-        }
-    }
-
-    /// The same of a static function.
-    fn show_values<O: Sink, L: Ledger>(
-        &self,
-        values: &FuncView<B>,
-        steps: &mut Steps<L>,
-        page: &mut Page,
-        out: &mut O,
-    ) -> Result<(), Failed>
-        requires room { length page.old.bytes + 256 ≤ 4096 }
-        requires function { IsFuncView (B.words_of self.now.bank) values.now }
-        ensures ok { OnOk result (IsShown (O.written out.old) (O.written out.new)
-            (page.old.bytes ++ section_lines (B.words_of self.now.bank)) page.new.bytes) }
-        ensures failed { OnErr result (AppendsPrefix (O.written out.old) (O.written out.new)
-            (page.old.bytes ++ section_lines (B.words_of self.now.bank))) }
-        ensures cause { HasCause (O.faults out.old) (O.faults out.new) result }
-        ensures counted { steps.old ≤ steps.new }
-    {
-        show_function(values, steps, page, out)
     }
 }

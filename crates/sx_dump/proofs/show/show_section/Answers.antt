@@ -1,0 +1,35 @@
+use Rattle.std.proofs.Common.{◌++◌, ℕ, List, subst}
+use Rattle.std.specs.Prelude.{OnOk, OnErr}
+use Rattle.sx_edge.specs.Parts.{AppendsPrefix}
+use Rattle.sx_static.specs.Viewing.{viewed}
+use Rattle.sx_dump.specs.Showing.{IsShown}
+use Rattle.sx_dump.proofs.ShownPlaces.{function_is, list_is}
+use Rattle.sx_dump.proofs.show.show_section.Goals as goal
+
+pub returns-in-Function-clause-ok : goal.returns-in-Function-clause-ok
+returns-in-Function-clause-ok g c =
+    let words = g.B.WordBank.words_of c.args.bank in
+    let v = c.function_in.result in
+    let same = function_is words c.args.name c.args.place.now c.in-Function.section (viewed (g.B.WordBank.words_of v.bank) v.first v.width v.pairs) c.in-Function.is c.function_in.ensures in
+    subst (λ (lines : List ℕ). OnOk c.show_function.result (IsShown (g.O.Sink.written c.args.out.now) (g.O.Sink.written c.show_function.new.out) (c.args.page.now.bytes ++ lines) c.show_function.new.page.bytes))
+    same c.show_function.ensures.ok
+
+pub returns-in-Function-clause-failed : goal.returns-in-Function-clause-failed
+returns-in-Function-clause-failed g c =
+    let words = g.B.WordBank.words_of c.args.bank in
+    let v = c.function_in.result in
+    let same = function_is words c.args.name c.args.place.now c.in-Function.section (viewed (g.B.WordBank.words_of v.bank) v.first v.width v.pairs) c.in-Function.is c.function_in.ensures in
+    subst (λ (lines : List ℕ). OnErr c.show_function.result (AppendsPrefix (g.O.Sink.written c.args.out.now) (g.O.Sink.written c.show_function.new.out) (c.args.page.now.bytes ++ lines)))
+    same c.show_function.ensures.failed
+
+pub returns-in-List-clause-ok : goal.returns-in-List-clause-ok
+returns-in-List-clause-ok g c =
+    let same = list_is (g.B.WordBank.words_of c.args.bank) c.args.name c.args.place.now c.in-List.section c.in-List.is in
+    subst (λ (lines : List ℕ). OnOk c.show_list.result (IsShown (g.O.Sink.written c.args.out.now) (g.O.Sink.written c.show_list.new.out) (c.args.page.now.bytes ++ lines) c.show_list.new.page.bytes))
+    same c.show_list.ensures.ok
+
+pub returns-in-List-clause-failed : goal.returns-in-List-clause-failed
+returns-in-List-clause-failed g c =
+    let same = list_is (g.B.WordBank.words_of c.args.bank) c.args.name c.args.place.now c.in-List.section c.in-List.is in
+    subst (λ (lines : List ℕ). OnErr c.show_list.result (AppendsPrefix (g.O.Sink.written c.args.out.now) (g.O.Sink.written c.show_list.new.out) (c.args.page.now.bytes ++ lines)))
+    same c.show_list.ensures.failed
