@@ -239,10 +239,13 @@ module _ (values : List ℕ) (es : List (ℕ × ℕ)) (ranked : List (Reverse �
       (comes_from values (value_at a) (value_at b)
       (elim (in_turn (count_at a) (count_at b) (value_at b) (value_at a) (nat_cmp (count_at a) (count_at b)) (ranks (count_at a) (count_at b)) turn) [
         | inl more ↦ inl (omega arith)
-        | inr same ↦ inr (let e = same.0 in omega arith, elim (cases_order (value_at a) (value_at b)) [
+        | inr same ↦ inr (
+          let e = same.0 in omega arith,
+          elim (cases_order (value_at a) (value_at b)) [
             | inl equal ↦ absurd (differ equal)
             | inr either ↦ elim either [ inl less ↦ less | inr above ↦ absurd (let le = same.1 in omega arith) ]
-          ])
+          ],
+        )
       ]))
 
   rising : IsRising (comes_before values) held

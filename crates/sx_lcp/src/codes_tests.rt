@@ -13,7 +13,10 @@ fn short_lists(rt: HostRuntime) -> Result<(), Fail> {
     let found = two_step(rt.alloc(), &[3, 3, 3, 3, 3, 3, 3, 3, 5, 9])?;
     assert_eq!(rt; found.bits, 1);
     assert_eq!(rt; found.table.as_slice(), [3].as_slice());
-    assert_eq!(rt; found.codes.as_slice(), [0, 0, 0, 0, 0, 0, 0, 0, 1, 1].as_slice());
+    assert_eq!(rt;
+        found.codes.as_slice(),
+        [0, 0, 0, 0, 0, 0, 0, 0, 1, 1].as_slice()
+    );
     assert_eq!(rt; found.escaped.as_slice(), [8, 9].as_slice());
     let found = two_step(rt.alloc(), &[6, 6, 5, 5])?;
     assert_eq!(rt; found.bits, 2);

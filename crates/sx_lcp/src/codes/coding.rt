@@ -61,7 +61,8 @@ pub(super) fn escaped_by(alloc: Global, codes: &[u32], last: u32) -> Result<Vec<
     requires { length codes.now < 2 ^ 32 }
     ensures { IfOk result (λ v. v.items ≡ numbers_from last 0 codes.now) }
 {
-    let mut escaped = Vec::new(alloc);
+    let count = codes.iter().filter(|code| **code == last).count();
+    let mut escaped = Vec::with_capacity(alloc, count)?;
     for (number, code) in codes.iter().enumerate() {
         if *code == last {
             escaped.push(number as u32)?;

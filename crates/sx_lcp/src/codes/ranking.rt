@@ -31,7 +31,8 @@ pub(super) fn ranked_values(alloc: Global, values: &[u32]) -> Result<Vec<Ranked>
 /// How often each value stands in a list of fewer than 2 to the power 32.
 fn counts(alloc: Global, values: &[u32]) -> Result<HashMap<u32, u32>, AllocError>
     requires { length values.now < 2 ^ 32 }
-    ensures counts { IfOk result (λ m. (q : ℕ) → unwrap_or (get nat_eq m q) 0 ≡ frequency values.now q) }
+    ensures counts { IfOk result (λ m. (q : ℕ) →
+        unwrap_or (get nat_eq m q) 0 ≡ frequency values.now q) }
     ensures some { IfOk result (λ m. (q : ℕ) → get nat_eq m q ≢ Some 0) }
 {
     let mut counts = HashMap::new(alloc);

@@ -19,15 +19,15 @@ loop-bits-preserved c =
     let new = c.cost-next.ensures in
     elim c.if-next-least.branch [
       | then-next-least w ↦ record {
-          best = best_then f l.bits l.best l.least c.cost-next.result c.if-next-least.best (omega arith) l.invariant.best l.invariant.least new w.if-next-least.true w.best-is;
-          least = w.least-is ∙ new ∙ ap f (sym w.best-is);
-          before = omega arith;
-        }
+        best = best_then f l.bits l.best l.least c.cost-next.result c.if-next-least.best (omega arith) l.invariant.best l.invariant.least new w.if-next-least.true w.best-is;
+        least = w.least-is ∙ new ∙ ap f (sym w.best-is);
+        before = omega arith;
+      }
       | else-next-least w ↦ record {
-          best = best_else f l.bits l.best l.least c.cost-next.result c.if-next-least.best (omega arith) l.invariant.best l.invariant.least new w.if-next-least.false w.best-is;
-          least = w.least-is ∙ l.invariant.least ∙ ap f (sym w.best-is);
-          before = omega arith;
-        }
+        best = best_else f l.bits l.best l.least c.cost-next.result c.if-next-least.best (omega arith) l.invariant.best l.invariant.least new w.if-next-least.false w.best-is;
+        least = w.least-is ∙ l.invariant.least ∙ ap f (sym w.best-is);
+        before = omega arith;
+      }
     ]
 
 pub returns-clause-value : goal.returns-clause-value
