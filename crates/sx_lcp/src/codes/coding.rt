@@ -1,7 +1,8 @@
 //! The codes of values by a table, and which of them are escaped.
 
-ghost use Rattle.std.specs.Prelude.{◌≡◌, ℕ, ◌-◌, ◌<◌, ◌≤◌, ◌^◌, IfOk, length, map, nat_eq};
+ghost use Rattle.std.specs.Prelude.{◌≡◌, ℕ, ◌-◌, ◌<◌, ◌≤◌, ◌^◌, ◌==◌, if◌then◌else◌, IfOk, OnOk, length, map, nat_eq};
 ghost use Rattle.std.specs.HashMap.{get};
+ghost use Rattle.std.specs.Option.{option_or};
 ghost use Rattle.sx_spec_kinds.specs.TwoStep.{code_of};
 ghost use Rattle.sx_lcp.specs.Rankings.{place_in, numbers_from};
 
@@ -45,11 +46,20 @@ fn places(alloc: Global, table: &[u32]) -> Result<HashMap<u32, u32>, AllocError>
     requires { length table.now < 2 ^ 32 }
     ensures { IfOk result (λ m. (q : ℕ) → get nat_eq m q ≡ place_in table.now q) }
 {
-    let mut places = HashMap::new(alloc);
+    let mut places = HashMap::with_capacity(alloc, table.len())?;
     for (place, value) in table.iter().enumerate() {
-        places.entry(*value)?.or_insert(place as u32);
+        put_place(&mut places, *value, place as u32)?;
     }
     Ok(places)
+}
+
+/// Gives a value this place, unless it has one.
+fn put_place(places: &mut HashMap<u32, u32>, value: u32, place: u32) -> Result<(), AllocError>
+    ensures { OnOk result ((q : ℕ) → get nat_eq places.new q ≡
+        option_or (get nat_eq places.old q) (if value == q then Some place else None)) }
+{
+    places.entry(value)?.or_insert(place);
+    Ok(())
 }
 
 /// The numbers of those of fewer than 2 to the power 32 codes that are the last one, rising.
