@@ -1,3 +1,6 @@
 mod Replies
 mod CommonPrefixes
 mod BlockParts
+pub mod Costing
+pub mod Placing
+pub mod Ranks

@@ -1,3 +1,4 @@
 pub mod Parts
+pub mod Rankings
 pub mod TwoSteps
 pub mod Views

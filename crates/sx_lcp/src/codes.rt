@@ -1,9 +1,16 @@
 //! Two-step codes: short codes for the most frequent values of a list, and the others escaped.
 
-ghost use Rattle.std.specs.Prelude.{◌≡◌, ◌<◌, ◌^◌, IfOk, length};
-ghost use Rattle.sx_spec_kinds.specs.TwoStep.{two_step_of};
+ghost use Rattle.std.specs.Prelude.{◌≡◌, ◌<◌, ◌≤◌, ◌^◌, IfOk, length};
+ghost use Rattle.sx_spec_kinds.specs.TwoStep.{two_step_of, width_of};
 ghost use Rattle.sx_lcp.specs.TwoSteps.{two_step_as};
 
+mod coding;
+mod costs;
+mod ranking;
+
+use coding::{codes_by, escaped_by, last_code};
+use costs::{best_bits, table_by};
+use ranking::ranked_values;
 use std::alloc::{AllocError, Global};
 
 /// The two-step codes of a list of values.
@@ -28,8 +35,29 @@ pub struct TwoStep {
 /// Want of memory.
 pub fn two_step(alloc: Global, values: &[u32]) -> Result<TwoStep, AllocError>
     requires few { length values.now < 2 ^ 32 }
-    requires stub { ⊥ }
     ensures { IfOk result (λ t. two_step_as t ≡ two_step_of values.now) }
 {
-    unreachable!()
+    let ranked = ranked_values(alloc, values)?;
+    let bits = best_bits(values, &ranked, width(values));
+    let table = table_by(alloc, &ranked, bits)?;
+    let codes = codes_by(alloc, &table, bits, values)?;
+    let escaped = escaped_by(alloc, &codes, last_code(bits))?;
+    Ok(TwoStep {
+        bits,
+        table,
+        codes,
+        escaped,
+    })
+}
+
+/// How many bits the greatest of the values has; 0 where there is none.
+fn width(values: &[u32]) -> u32
+    ensures value { result ≡ width_of values.now }
+    ensures bound { result ≤ 32 }
+{
+    let mut greatest = 0u32;
+    for value in values {
+        greatest = greatest.max(*value);
+    }
+    32 - greatest.leading_zeros()
 }

@@ -2,6 +2,8 @@
 #![tactic(auto)]
 
 mod codes;
+#[cfg(test)]
+mod codes_tests;
 mod lcp;
 mod lcp2;
 mod parts;
