@@ -238,6 +238,7 @@ impl<B: WordBank + Copy> Dump<B> {
     {
         match &self.view {
             View::Func(values) => self.show_values(values, steps, page, out),
+            View::Lcp(_) | View::Lcp2(_) => unreachable!(),
         }
     }
 
