@@ -1,4 +1,6 @@
-use Rattle.std.proofs.Common.{◌≡◌, arith, ap, ◌∙◌}
+use Rattle.std.proofs.Common.{◌≡◌, FitsSigned, arith, rules, ap, ◌∙◌}
+use Rattle.std.specs.Int.{w128}
+use Rattle.std.proofs.lemmas.Int.{to_z-of_z}
 use Rattle.sx_spec_kinds.specs.declared.Kind.TheVariants.{Lcp}
 use Rattle.sx_spec.specs.Reply.{reply_number}
 use Rattle.sx_dump.proofs.Replies.{lcp_reply_is, reads_are}
@@ -8,7 +10,9 @@ pub returns-clause-value : goal.returns-clause-value
 returns-clause-value g c =
     let d = c.args.self.now in
     let words = g.B.WordBank.words_of d.bank in
-    c.number_of.ensures
+    let fits : FitsSigned w128 c.number_of.result = search rules in
+    to_z-of_z w128 c.number_of.result fits
+    ∙ c.number_of.ensures
     ∙ ap reply_number (c.answer.ensures.value ∙ lcp_reply_is words d.header d.places.items d.opened c.args.lcp.now c.requires.view c.args.line.now _ c.key_bits-key.ensures)
 
 pub returns-clause-cost : goal.returns-clause-cost
