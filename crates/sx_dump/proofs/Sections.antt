@@ -14,7 +14,7 @@ use Rattle.sx_spec_strings.specs.First.{first_failing}
 use Rattle.sx_spec.specs.Kinds.{bucket_count}
 use Rattle.sx_spec.specs.Layout.{Header as HeaderOf, Section, SectionRule, Slot, corrections_of, corrections_section, exact_list, function_checks, function_of, function_section, header_of, item_words, kind_slots, last_section, list_checks, list_of, list_section, section_checks, section_of, section_size, section_width, sections_in, slots, sums_of, sums_section}
 use Rattle.sx_spec.specs.Reply.{function_in, numbers_in, section_at as section_of_dump}
-use Rattle.sx_static.proofs.FunctionSections.{all_true}
+use Rattle.sx_spec_strings.proofs.Lists.{all_true}
 use Rattle.sx_static.specs.Viewing.{viewed}
 use Rattle.sx_spec.specs.Fields.{fields}
 use Rattle.sx_sections.specs.declared.header.Header.{Header}

@@ -2,7 +2,9 @@
 use Rattle.std.specs.Prelude.{◌≡◌, ℕ, List, drop}
 use Rattle.sx_fields.specs.declared.bank.WordBank.{Ghosts}
 use Rattle.sx_fields.specs.declared.packed.Packed.{Packed}
-use Rattle.sx_spec_kinds.specs.declared.Kind.TheVariants.{Func as FuncKind}
+use Rattle.sx_spec_kinds.specs.declared.Kind.TheVariants.{Func as FuncKind, Lcp as LcpKind, Lcp2 as Lcp2Kind}
+use Rattle.sx_lcp.specs.declared.lcp.LcpView.{LcpView}
+use Rattle.sx_lcp.specs.declared.lcp2.Lcp2View.{Lcp2View}
 use Rattle.sx_spec.specs.Fields.{fields}
 use Rattle.sx_spec.specs.Layout.{header_of}
 use Rattle.sx_spec.specs.Reply.{function_in, numbers_of, section_at}
@@ -10,7 +12,7 @@ use Rattle.sx_static.specs.Viewing.{viewed}
 use Rattle.sx_static.specs.declared.view.FuncView.{FuncView}
 use Rattle.sx_dump.specs.Opening.{dump_in}
 use Rattle.sx_dump.specs.declared.view.View.{View}
-use Rattle.sx_dump.specs.declared.view.View.TheVariants.{Func}
+use Rattle.sx_dump.specs.declared.view.View.TheVariants.{Func, Lcp, Lcp2}
 
 -- the function that is read is that of section i of the dump in the words
 pub record ReadsFunction {B : Type 0} {bank_of : Ghosts B} (words : List ℕ) (i : ℕ) (v : FuncView B bank_of) : Type 0 where
@@ -25,6 +27,27 @@ pub record IsFuncView {B : Type 0} {bank_of : Ghosts B} (words : List ℕ) (v : 
   pub kind : (header_of words).plan.kind ≡ FuncKind
   pub values : ReadsFunction words 0 v
 
+-- the distributor is that of a dump of kind lcp in the words
+pub record IsLcpView {B : Type 0} {bank_of : Ghosts B} (words : List ℕ) (v : LcpView B bank_of) : Type 0 where
+  pub kind : (header_of words).plan.kind ≡ LcpKind
+  pub lengths : ReadsFunction words 0 v.lengths
+  pub prefixes : ReadsFunction words 1 v.prefixes
+  pub keys : v.keys ≡ (header_of words).keys
+  pub bucket : v.log_bucket ≡ (header_of words).plan.log_bucket
+
+-- the distributor is that of a dump of kind lcp2 in the words
+pub record IsLcp2View {B : Type 0} {bank_of : Ghosts B} (words : List ℕ) (v : Lcp2View B bank_of) : Type 0 where
+  pub kind : (header_of words).plan.kind ≡ Lcp2Kind
+  pub offsets : ReadsFunction words 0 v.offsets
+  pub codes : ReadsFunction words 1 v.codes
+  pub table : ReadsNumbers words 2 v.table
+  pub escaped : ReadsFunction words 3 v.escaped
+  pub prefixes : ReadsFunction words 4 v.prefixes
+  pub keys : v.keys ≡ (header_of words).keys
+  pub bucket : v.log_bucket ≡ (header_of words).plan.log_bucket
+
 -- what answers is made from the sections of the dump in the words: a row for each kind
 pub record IsViewOf {B : Type 0} {bank_of : Ghosts B} (words : List ℕ) (view : View B bank_of) : Type 0 where
   pub func : (values : FuncView B bank_of) → view ≡ Func values → IsFuncView words values
+  pub lcp : (lcp : LcpView B bank_of) → view ≡ Lcp lcp → IsLcpView words lcp
+  pub lcp2 : (lcp2 : Lcp2View B bank_of) → view ≡ Lcp2 lcp2 → IsLcp2View words lcp2

@@ -4,12 +4,13 @@ ghost use Rattle.std.specs.Prelude.{◌≡◌, ◌+◌, ◌≤◌, length};
 ghost use Rattle.sx_spec.specs.Layout.{layout};
 ghost use Rattle.sx_spec.specs.Reply.{reads, reply, reply_number};
 ghost use Rattle.sx_dump.specs.Opening.{IsOpened, dump_in};
-ghost use Rattle.sx_dump.specs.Viewing.{IsFuncView, IsViewOf};
+ghost use Rattle.sx_dump.specs.Viewing.{IsFuncView, IsLcp2View, IsLcpView, IsViewOf};
 
 use crate::view::{View, view_of};
 use std::sync::ledger::Ledger;
 use sx_bits::BitView;
 use sx_fields::bank::WordBank;
+use sx_lcp::{Lcp2View, LcpView};
 use sx_sections::header::Header;
 use sx_sections::open::Opened;
 use sx_sections::walk::Places;
@@ -84,6 +85,8 @@ impl<B: WordBank + Copy> Dump<B> {
     {
         match &self.view {
             View::Func(values) => self.reply_by_function(values, line, steps),
+            View::Lcp(lcp) => self.reply_by_lcp(lcp, line, steps),
+            View::Lcp2(lcp2) => self.reply_by_lcp2(lcp2, line, steps),
         }
     }
 
@@ -108,5 +111,49 @@ impl<B: WordBank + Copy> Dump<B> {
             self.header.plan.sig_bits,
         );
         i128::from(values.answer(&sig, steps))
+    }
+
+    /// The same of the kind `lcp`, in at most 16 reads of words.
+    #[inline(always)]
+    fn reply_by_lcp<L: Ledger>(&self, lcp: &LcpView<B>, line: &[u8], steps: &mut Steps<L>) -> i128
+        requires short { length line.now ≤ 8191 }
+        requires view { IsLcpView (B.words_of self.now.bank) lcp.now }
+        ensures value { result ≡ reply_number (reply (dump_in (B.words_of self.now.bank)) line.now) }
+        ensures counted { steps.old ≤ steps.new }
+        ensures cost { steps.new ≤ steps.old + reads (dump_in (B.words_of self.now.bank)) line.now }
+    {
+        let header = &self.header;
+        let key = BitView::key_bits(line);
+        number_of(lcp.answer(&key, header.seed, header.plan.sig_bits, steps))
+    }
+
+    /// The same of the kind `lcp2`, in at most 34 reads of words.
+    #[inline(always)]
+    fn reply_by_lcp2<L: Ledger>(
+        &self,
+        lcp2: &Lcp2View<B>,
+        line: &[u8],
+        steps: &mut Steps<L>,
+    ) -> i128
+        requires short { length line.now ≤ 8191 }
+        requires view { IsLcp2View (B.words_of self.now.bank) lcp2.now }
+        ensures value { result ≡ reply_number (reply (dump_in (B.words_of self.now.bank)) line.now) }
+        ensures counted { steps.old ≤ steps.new }
+        ensures cost { steps.new ≤ steps.old + reads (dump_in (B.words_of self.now.bank)) line.now }
+    {
+        let header = &self.header;
+        let key = BitView::key_bits(line);
+        number_of(lcp2.answer(&key, header.seed, header.plan.sig_bits, steps))
+    }
+}
+
+/// The reply as a number: -1 for none.
+#[inline(always)]
+fn number_of(reply: Option<u64>) -> i128
+    ensures { result ≡ reply_number reply }
+{
+    match reply {
+        Some(number) => i128::from(number),
+        None => -1,
     }
 }

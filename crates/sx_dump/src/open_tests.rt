@@ -49,6 +49,84 @@ const FIVES: [u64; 15] = [
     0x0505_0505_0505,
 ];
 
+/// The dump of kind `lcp` without keys.
+const LCP: [u64; 18] = [
+    0x3150_4D55_4458_5553,
+    18,
+    1,
+    0,
+    0,
+    0,
+    192,
+    5,
+    0,
+    0,
+    0,
+    0,
+    0,
+    0,
+    0,
+    0,
+    0,
+    0,
+];
+
+/// The dump of kind `lcp2` without keys.
+const LCP2: [u64; 28] = [
+    0x3150_4D55_4458_5553,
+    28,
+    2,
+    0,
+    0,
+    0,
+    192,
+    5,
+    0,
+    0,
+    0,
+    0,
+    0,
+    0,
+    0,
+    0,
+    0,
+    0,
+    0,
+    0,
+    0,
+    0,
+    0,
+    0,
+    0,
+    0,
+    0,
+    0,
+];
+
+/// The dump of kind `lcp` of the keys a, b, c and d, in blocks of two.
+const LETTERS: [u64; 20] = [
+    0x3150_4D55_4458_5553,
+    20,
+    1,
+    0,
+    4,
+    0,
+    192,
+    1,
+    0,
+    0,
+    4,
+    4,
+    0,
+    9,
+    0x1600_00DC,
+    1,
+    2,
+    0,
+    6,
+    2,
+];
+
 /// The number of the check that fails, 0 where the file is opened, or 255.
 fn failing(alloc: Global, words: &[u64], bytes: u64) -> u8
     requires { length words.now ≡ div_ceil bytes 8 }
@@ -60,13 +138,23 @@ fn failing(alloc: Global, words: &[u64], bytes: u64) -> u8
     }
 }
 
-/// The number of the check that fails where word `i` of the dump without keys is another.
+/// The number of the check that fails where word `i` of a dump is another.
+fn changed_in(alloc: Global, dump: &[u64], i: usize, word: u64) -> u8
+    requires within { i < length dump.now }
+    requires few { length dump.now ≤ 28 }
+{
+    let count = dump.len();
+    let mut words = [0; 28];
+    words[..count].copy_from_slice(dump);
+    words[i] = word;
+    failing(alloc, &words[..count], 8 * count as u64)
+}
+
+/// The same of the dump of a function without keys.
 fn changed(alloc: Global, i: usize, word: u64) -> u8
     requires { i < 14 }
 {
-    let mut words = EMPTY;
-    words[i] = word;
-    failing(alloc, &words, 112)
+    changed_in(alloc, &EMPTY, i, word)
 }
 
 fn counted<B: WordBank + Copy, L: Ledger>(dump: &Dump<B>, line: &[u8], blank: Blank) -> i128
@@ -93,7 +181,7 @@ fn headers_are_checked(rt: HostRuntime) -> Result<(), Fail> {
     assert_eq!(rt; failing(alloc, &FIVES[..14], 111), 1);
     assert_eq!(rt; changed(alloc, 0, 0), 2);
     assert_eq!(rt; changed(alloc, 1, 15), 3);
-    assert_eq!(rt; changed(alloc, 2, 1), 4);
+    assert_eq!(rt; changed(alloc, 2, 3), 4);
     assert_eq!(rt; changed(alloc, 2, 6), 4);
     assert_eq!(rt; changed(alloc, 3, 2), 5);
     assert_eq!(rt; changed(alloc, 4, 1 << 32), 6);
@@ -117,6 +205,50 @@ fn sections_are_checked(rt: HostRuntime) -> Result<(), Fail> {
     longer[1] = 15;
     assert_eq!(rt; failing(alloc, &longer, 120), 18);
     Ok(())
+}
+
+#[test]
+fn sections_of_distributors_are_checked(rt: HostRuntime) -> Result<(), Fail> {
+    let alloc = rt.alloc();
+    assert_eq!(rt; failing(alloc, &LETTERS, 160), 0);
+    assert_eq!(rt; changed_in(alloc, &LETTERS, 7, 13), 8);
+    assert_eq!(rt; changed_in(alloc, &LETTERS, 11, 5), 12);
+    assert_eq!(rt; changed_in(alloc, &LETTERS, 10, 33), 13);
+    assert_eq!(rt; changed_in(alloc, &LETTERS, 16, 3), 12);
+    assert_eq!(rt; changed_in(alloc, &LETTERS, 15, 33), 13);
+    assert_eq!(rt; failing(alloc, &LCP2, 224), 0);
+    // offsets, codes, the table's count and width, escaped lengths, and prefixes
+    assert_eq!(rt; changed_in(alloc, &LCP2, 11, 1), 12);
+    assert_eq!(rt; changed_in(alloc, &LCP2, 15, 1), 12);
+    assert_eq!(rt; changed_in(alloc, &LCP2, 18, 1), 12);
+    assert_eq!(rt; changed_in(alloc, &LCP2, 19, 33), 13);
+    assert_eq!(rt; changed_in(alloc, &LCP2, 21, 1), 12);
+    assert_eq!(rt; changed_in(alloc, &LCP2, 25, 1), 12);
+    Ok(())
+}
+
+/// The reply of a dump to a line, or -2 where the dump isn't opened.
+fn replied(alloc: Global, words: &[u64], line: &[u8]) -> i128
+    requires few { length words.now ≤ 28 }
+    requires short { length line.now ≤ 8191 }
+{
+    match open_dump(alloc, words, 8 * words.len() as u64, Words::new(words)) {
+        Ok(dump) => reply(&dump, line),
+        Err(_) => -2,
+    }
+}
+
+#[test]
+fn distributors_reply(rt: HostRuntime) {
+    let alloc = rt.alloc();
+    assert_eq!(rt; replied(alloc, &LCP, b"x"), -1);
+    assert_eq!(rt; replied(alloc, &LCP, b""), -1);
+    assert_eq!(rt; replied(alloc, &LCP2, b"x"), -1);
+    assert_eq!(rt; replied(alloc, &LCP2, b""), -1);
+    assert_eq!(rt; replied(alloc, &LETTERS, b"a"), 0);
+    assert_eq!(rt; replied(alloc, &LETTERS, b"b"), 1);
+    assert_eq!(rt; replied(alloc, &LETTERS, b"c"), 2);
+    assert_eq!(rt; replied(alloc, &LETTERS, b"d"), 3);
 }
 
 #[test]

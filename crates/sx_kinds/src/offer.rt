@@ -12,12 +12,13 @@ use crate::options::same_option;
 use sx_spec::{Kind, OptionName};
 
 /// The kinds that are built and opened.
-const KINDS: [Kind; 1] = [Kind::Func];
+const KINDS: [Kind; 3] = [Kind::Func, Kind::Lcp, Kind::Lcp2];
 
 /// The options of `build`.
-const OPTIONS: [OptionName; 4] = [
+const OPTIONS: [OptionName; 5] = [
     OptionName::Seeds,
     OptionName::Method,
+    OptionName::LogBucket,
     OptionName::SigBits,
     OptionName::Values,
 ];

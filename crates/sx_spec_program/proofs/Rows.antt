@@ -13,8 +13,13 @@ word_examples = record {
   no_kind = refl;
   kind_not_offered = refl;
   bad_value = refl;
+  large_blocks = refl;
+  no_blocks = refl;
+  no_values = refl;
   plain = refl;
   seeds = refl;
+  blocks = refl;
+  plain_blocks = refl;
   query_words = refl;
   dump_words = refl;
 }

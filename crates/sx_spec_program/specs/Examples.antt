@@ -1,22 +1,23 @@
 -- Worked examples of what a program that offers a part of the whole reads and opens.
 use Rattle.std.specs.Prelude.{◌≡◌, ℕ, List, [], ◌∷◌, ◌++◌, None, Some, Ok, Err, codes}
-use Rattle.sx_spec_kinds.specs.declared.Kind.TheVariants.{Func}
+use Rattle.sx_spec_kinds.specs.declared.Kind.{Kind}
+use Rattle.sx_spec_kinds.specs.declared.Kind.TheVariants.{Func, Lcp, Lcp2}
 use Rattle.sx_spec.specs.declared.Method.TheVariants.{Mwhc, Gov3}
-use Rattle.sx_spec.specs.declared.OptionName.TheVariants.{SigBits}
-use Rattle.sx_spec.specs.declared.Rule.TheVariants.{NoCommand, UnknownCommand, BadWords, UnknownKind, BadValue}
+use Rattle.sx_spec.specs.declared.OptionName.TheVariants.{LogBucket, SigBits, Values}
+use Rattle.sx_spec.specs.declared.Rule.TheVariants.{NoCommand, UnknownCommand, BadWords, UnknownKind, BadValue, DoesNotGo}
 use Rattle.sx_spec.specs.Command.{Text, Task, BuildTask, usage, build, query, show_dump}
 use Rattle.sx_spec.specs.Layout.{words_bytes, magic}
 use Rattle.sx_spec_program.specs.Offer.{offered, opened_by}
 use Rattle.sx_spec_program.specs.Program.{sux_offer}
 
--- the words as the program over static functions reads them
+-- the words as the program reads them
 abbrev pub reads : List Text → Task
 reads words = offered sux_offer words
 
--- `build` of the file D with these seeds, so many bits of signatures, and values from a file
-abbrev pub builds : List ℕ → ℕ → BuildTask
-builds seeds bits = record {
-  plan = record { kind = Func; method = Mwhc; log_bucket = 0; sig_bits = bits; handle_bits = 0; signed = 0 };
+-- `build` of the file D: a kind with blocks of so many keys by their logarithm, these seeds, and so many bits of signatures
+abbrev pub builds : Kind → ℕ → List ℕ → ℕ → BuildTask
+builds kind log_bucket seeds bits = record {
+  plan = record { kind = kind; method = Mwhc; log_bucket = log_bucket; sig_bits = bits; handle_bits = 0; signed = 0 };
   seeds = seeds;
   values = None;
   dump = codes "D";
@@ -31,10 +32,15 @@ pub record WordExamples : Type 0 where
   pub twice : reads (codes "build" ∷ codes "lcp" ∷ codes "D" ∷ codes "--seeds" ∷ codes "1" ∷ codes "--seeds" ∷ codes "2" ∷ []) ≡ usage BadWords
   pub option_not_offered : reads (codes "build" ∷ codes "tree" ∷ codes "D" ∷ codes "--signed" ∷ codes "8" ∷ []) ≡ usage BadWords
   pub no_kind : reads (codes "build" ∷ codes "tree" ∷ codes "D" ∷ []) ≡ usage UnknownKind
-  pub kind_not_offered : reads (codes "build" ∷ codes "lcp" ∷ codes "D" ∷ codes "--sig-bits" ∷ codes "193" ∷ []) ≡ usage UnknownKind
+  pub kind_not_offered : reads (codes "build" ∷ codes "hollow" ∷ codes "D" ∷ codes "--sig-bits" ∷ codes "193" ∷ []) ≡ usage UnknownKind
   pub bad_value : reads (codes "build" ∷ codes "func" ∷ codes "D" ∷ codes "--sig-bits" ∷ codes "193" ∷ []) ≡ usage (BadValue SigBits)
-  pub plain : reads (codes "build" ∷ codes "func" ∷ codes "D" ∷ []) ≡ build (builds (0 ∷ 1 ∷ 2 ∷ 3 ∷ []) 192)
-  pub seeds : reads (codes "build" ∷ codes "func" ∷ codes "--seeds=7,8" ∷ codes "D" ∷ codes "--sig-bits" ∷ codes "0" ∷ []) ≡ build (builds (7 ∷ 8 ∷ []) 0)
+  pub large_blocks : reads (codes "build" ∷ codes "lcp2" ∷ codes "D" ∷ codes "--log-bucket" ∷ codes "13" ∷ []) ≡ usage (BadValue LogBucket)
+  pub no_blocks : reads (codes "build" ∷ codes "func" ∷ codes "D" ∷ codes "--log-bucket" ∷ codes "3" ∷ []) ≡ usage (DoesNotGo LogBucket Func)
+  pub no_values : reads (codes "build" ∷ codes "lcp" ∷ codes "D" ∷ codes "--values" ∷ codes "f" ∷ []) ≡ usage (DoesNotGo Values Lcp)
+  pub plain : reads (codes "build" ∷ codes "func" ∷ codes "D" ∷ []) ≡ build (builds Func 0 (0 ∷ 1 ∷ 2 ∷ 3 ∷ []) 192)
+  pub seeds : reads (codes "build" ∷ codes "func" ∷ codes "--seeds=7,8" ∷ codes "D" ∷ codes "--sig-bits" ∷ codes "0" ∷ []) ≡ build (builds Func 0 (7 ∷ 8 ∷ []) 0)
+  pub blocks : reads (codes "build" ∷ codes "lcp" ∷ codes "D" ∷ codes "--log-bucket" ∷ codes "3" ∷ []) ≡ build (builds Lcp 3 (0 ∷ 1 ∷ 2 ∷ 3 ∷ []) 192)
+  pub plain_blocks : reads (codes "build" ∷ codes "lcp2" ∷ codes "D" ∷ []) ≡ build (builds Lcp2 5 (0 ∷ 1 ∷ 2 ∷ 3 ∷ []) 192)
   pub query_words : reads (codes "query" ∷ codes "D" ∷ []) ≡ query (codes "D")
   pub dump_words : reads (codes "dump" ∷ codes "D" ∷ []) ≡ show_dump (codes "D")
 

@@ -46,10 +46,14 @@ offered offer (word ∷ words) =
 
 -- ---- dumps
 
+-- whether the kind is offered
+abbrev pub offers_kind : Offer → Kind → Bool
+offers_kind offer kind = list_any (λ offered. kind_code offered == kind_code kind) offer.kinds
+
 -- whether what a check of the header asks is offered: the kind (4) and the signed width (9)
 abbrev pub offers_header : Offer → Plan → ℕ → Bool
 offers_header offer plan check =
-    if check == 4 then list_any (λ kind. kind_code kind == kind_code plan.kind) offer.kinds
+    if check == 4 then offers_kind offer plan.kind
     else if check == 9 then nat_le plan.signed offer.signed
     else true
 

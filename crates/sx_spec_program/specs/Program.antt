@@ -1,30 +1,33 @@
 -- What this program offers, and the program that offers so much.
-use Rattle.std.specs.Prelude.{◌≡◌, ◌≤◌, ℕ, List, [], ◌∷◌, Option, option_map, codes}
+use Rattle.std.specs.Prelude.{◌≡◌, ◌≤◌, ℕ, true, false, List, [], ◌∷◌, Option, option_map, codes}
 use Rattle.std.specs.Result.{result_err}
-use Rattle.sx_spec_kinds.specs.declared.Kind.TheVariants.{Func}
-use Rattle.sx_spec.specs.declared.OptionName.TheVariants.{Seeds, Method as MethodName, SigBits, Values}
+use Rattle.sx_spec_kinds.specs.declared.Kind.TheVariants.{Func, Lcp, Lcp2}
+use Rattle.sx_spec.specs.declared.OptionName.TheVariants.{Seeds, Method as MethodName, LogBucket, SigBits, Values}
 use Rattle.sx_spec.specs.declared.Plan.{Plan}
 use Rattle.sx_spec.specs.Command.{Text}
 use Rattle.sx_spec.specs.Keys.{standard_limits}
+use Rattle.sx_spec.specs.Kinds.{uses_buckets}
 use Rattle.sx_spec.specs.Messages.{key_text, seeds_text, check_text, fault_text}
 use Rattle.sx_spec.specs.Outcomes.{Profile}
 use Rattle.sx_spec.specs.Parts.{least_width}
-use Rattle.sx_spec_program.specs.Offer.{Offer, offered, opened_by}
+use Rattle.sx_spec_program.specs.Offer.{Offer, offered, offers_kind, opened_by}
 
--- what sux offers: static functions, built by either method, with values and without a signed width
+-- what sux offers: static functions with values, and the kinds lcp and lcp2 in blocks; built by either method, and without a signed width
 abbrev pub sux_offer : Offer
 sux_offer = record {
   commands = codes "build" ∷ codes "query" ∷ codes "open" ∷ codes "dump" ∷ [];
-  kinds = Func ∷ [];
-  options = Seeds ∷ MethodName ∷ SigBits ∷ Values ∷ [];
+  kinds = Func ∷ Lcp ∷ Lcp2 ∷ [];
+  options = Seeds ∷ MethodName ∷ LogBucket ∷ SigBits ∷ Values ∷ [];
   signed = 0;
 }
 
--- the plan of a dump that this program builds
+-- the plan of a dump that this program builds: what it offers, in the ranges of the options, and 0 where an option doesn't go with
+-- the kind. No kind that is offered keeps handles
 pub record IsOfferedPlan (plan : Plan) : Type 0 where
-  pub kind : plan.kind ≡ Func
-  pub unsigned : plan.signed ≡ 0
-  pub buckets : plan.log_bucket ≡ 0
+  pub kind : offers_kind sux_offer plan.kind ≡ true
+  pub signed : plan.signed ≤ sux_offer.signed
+  pub buckets : plan.log_bucket ≤ 12
+  pub no_buckets : uses_buckets plan.kind ≡ false → plan.log_bucket ≡ 0
   pub handles : plan.handle_bits ≡ 0
   pub bits : plan.sig_bits ≤ 192
 

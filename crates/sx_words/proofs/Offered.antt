@@ -1,4 +1,4 @@
--- What a plan is that the program offers: that of a static function.
+-- A plan that words ask for is one that the program offers.
 use Rattle.std.proofs.Common.{◌≡◌, ℕ, ◌≤◌, ◌^◌, Bool, true, false, ◌&&◌, ◌||◌, List, [], ◌∷◌, length, Option, Some, None, ◌∙◌, refl, sym, ap, subst, arith, lit≤}
 use Rattle.std.specs.Prelude.{not, find, drop, slice_get, codes, unwrap_or, option_map, option_and_then, if◌then◌else◌}
 use Rattle.std.specs.List.{list_all, list_any}
@@ -6,17 +6,17 @@ use Rattle.std.specs.Str.{bytes_eq}
 use Rattle.std.proofs.lemmas.Bool.{and_parts}
 use Rattle.std.proofs.lemmas.Slice.Eq.{bytes_eq-Decides}
 use Rattle.sx_spec_kinds.specs.declared.Kind.{Kind}
-use Rattle.sx_spec_kinds.specs.declared.Kind.TheVariants.{Func}
+use Rattle.sx_spec_kinds.specs.declared.Kind.TheVariants.{Func, Lcp, Lcp2, Hollow, HollowDist, Zfast}
 use Rattle.sx_spec.specs.declared.OptionName.{OptionName}
 use Rattle.sx_spec.specs.declared.OptionName.TheVariants.{Seeds, Method as MethodName, LogBucket, SigBits, HandleBits, Signed, Values}
 use Rattle.sx_spec.specs.declared.Plan.{Plan}
 use Rattle.sx_spec.specs.declared.Rule.{Rule}
 use Rattle.sx_spec.specs.declared.Rule.TheVariants.{UnknownCommand, UnknownKind, BadWords}
-use Rattle.sx_spec.specs.Kinds.{kind_word}
+use Rattle.sx_spec.specs.Kinds.{kind_word, uses_buckets, uses_handles}
 use Rattle.sx_spec.specs.Values.{number_below}
 use Rattle.sx_spec.specs.Layout.{kinds}
 use Rattle.sx_spec.specs.Command.{Text, Setting, Split, BuildTask, Task, usage, build, query, open_dump, show_dump, command, verbs, verb_task, for_split, for_kind, unless, trial_task, number_within, well_formed, split_words, split_plain, positional, setting, same_option, kind_named, options_rule, option_names, build_task, plan_of, number_of, goes_with}
-use Rattle.sx_spec_program.specs.Offer.{offered, offered_build, offers_options, offers_kind_word}
+use Rattle.sx_spec_program.specs.Offer.{offered, offered_build, offers_kind, offers_options, offers_kind_word}
 use Rattle.sx_spec_program.specs.Program.{sux_offer, IsOfferedPlan}
 use Rattle.sx_words.specs.Rules.{has_bad_value}
 use Rattle.sx_words.proofs.Plans.{no_rule, none_found, number_fits}
@@ -24,13 +24,29 @@ use Rattle.sx_words.proofs.Verdicts.{rule_is}
 
 -- ---- the pieces
 
--- the only kind that is offered
-only_func : (word : Text) (kind : Kind) → offers_kind_word sux_offer word ≡ true → kind_named word ≡ Some kind → kind ≡ Func
-only_func word kind offers named = by_test (bytes_eq (kind_word Func) word) (λ k. bytes_eq (kind_word k) word) offers named
+-- the kind of a word that is offered is offered
+kind_fits : (word : Text) (kind : Kind) → offers_kind_word sux_offer word ≡ true → kind_named word ≡ Some kind → offers_kind sux_offer kind ≡ true
+kind_fits word kind offers named =
+    by_tests (bytes_eq (kind_word Func) word) (bytes_eq (kind_word Lcp) word) (bytes_eq (kind_word Lcp2) word) (λ k. bytes_eq (kind_word k) word) offers named
   where
-    by_test : (b : Bool) (p : Kind → Bool) → (b || false) ≡ true → (if b then Some Func else find p (drop 1 kinds)) ≡ Some kind → kind ≡ Func
-    by_test true p o n = cc
-    by_test false p o n = absurd cc
+    same : {k : Kind} → kind ≡ k → offers_kind sux_offer kind ≡ offers_kind sux_offer k
+    same is = ap (offers_kind sux_offer) is
+
+    by_tests : (a b d : Bool) (p : Kind → Bool) → (a || (b || (d || false))) ≡ true
+        → (if a then Some Func else if b then Some Lcp else if d then Some Lcp2 else find p (drop 3 kinds)) ≡ Some kind → offers_kind sux_offer kind ≡ true
+    by_tests true b d p o n = let is : Func ≡ kind = cc in same (sym is)
+    by_tests false true d p o n = let is : Lcp ≡ kind = cc in same (sym is)
+    by_tests false false true p o n = let is : Lcp2 ≡ kind = cc in same (sym is)
+    by_tests false false false p o n = absurd cc
+
+-- no kind that is offered keeps handles
+no_handles : (kind : Kind) → offers_kind sux_offer kind ≡ true → uses_handles kind ≡ false
+no_handles Func offers = refl
+no_handles Lcp offers = refl
+no_handles Lcp2 offers = refl
+no_handles Hollow offers = refl
+no_handles HollowDist offers = refl
+no_handles Zfast offers = absurd cc
 
 -- a signed width isn't offered
 no_signed : (settings : List Setting) → list_all (λ t. list_any (same_option t.name) sux_offer.options) settings ≡ true → find (λ t. same_option Signed t.name) settings ≡ None
@@ -112,18 +128,21 @@ build_word word rest b e = by_tests (bytes_eq (codes "build") word) refl (bytes_
 -- ---- the plan
 
 -- the plan is one that is offered
-func_fits : (s : Split) → offers_options sux_offer s ≡ true → options_rule s Func ≡ None → IsOfferedPlan (plan_of s Func)
-func_fits s offers free =
-    let good = none_found (has_bad_value s) option_names (no_rule (find (has_bad_value s) option_names) _ _ (sym (rule_is s Func) ∙ free)) in
+options_fit : (s : Split) (kind : Kind) → offers_kind sux_offer kind ≡ true → offers_options sux_offer s ≡ true → options_rule s kind ≡ None → IsOfferedPlan (plan_of s kind)
+options_fit s kind kind_offered offers free =
+    let good = none_found (has_bad_value s) option_names (no_rule (find (has_bad_value s) option_names) _ _ (sym (rule_is s kind) ∙ free)) in
+    let unsigned : number_of s kind Signed 0 ≡ 0 =
+    ap (λ (o : Option Setting). unwrap_or (option_and_then (number_below (2 ^ 64)) (option_map (λ (t : Setting). t.value) o)) 0) (no_signed s.settings offers) in
     record {
-      kind = refl;
-      unsigned = ap (λ (o : Option Setting). unwrap_or (option_and_then (number_below (2 ^ 64)) (option_map (λ (t : Setting). t.value) o)) 0) (no_signed s.settings offers);
-      buckets = refl;
-      handles = refl;
+      kind = kind_offered;
+      signed = omega (arith, unsigned);
+      buckets = number_fits (uses_buckets kind) (setting s LogBucket) 0 12 5 12 (lit≤ tt) (lit≤ tt) good.1.1.0;
+      no_buckets = λ none. ap (λ (goes : Bool). if goes then unwrap_or (option_and_then (number_below (2 ^ 64)) (setting s LogBucket)) 5 else 0) none;
+      handles = ap (λ (goes : Bool). if goes then unwrap_or (option_and_then (number_below (2 ^ 64)) (setting s HandleBits)) 32 else 0) (no_handles kind kind_offered);
       bits = number_fits true (setting s SigBits) 0 192 192 192 (lit≤ tt) (lit≤ tt) good.1.1.1.0;
     }
 
--- the words of a build ask for the plan of a static function
+-- the words of a build ask for a plan that is offered
 pub plan_fits : (words : List Text) (b : BuildTask) → offered sux_offer words ≡ build b → IsOfferedPlan b.plan
 plan_fits [] b e = absurd cc
 plan_fits (word ∷ rest) b e = by_tests (not (list_any (bytes_eq word) sux_offer.commands)) (bytes_eq word (codes "build")) refl e
@@ -136,10 +155,8 @@ plan_fits (word ∷ rest) b e = by_tests (not (list_any (bytes_eq word) sux_offe
         let built = (build_word word rest b h).1 in
         let same : built.split ≡ s = (let both : Some built.split ≡ Some s = sym built.formed ∙ formed in cc) in
         let options : offers_options sux_offer built.split ≡ true = rw same a in
-        let kind_is : built.kind ≡ Func = only_func (positional built.split 0) built.kind (rw same c) built.named in
-        let free : options_rule built.split Func ≡ None = rw kind_is at built.free in
-        let is : b ≡ build_task built.split Func = rw kind_is at built.is in
-        subst (λ (t : BuildTask). IsOfferedPlan t.plan) (sym is) (func_fits built.split options free)
+        let kind_offered : offers_kind sux_offer built.kind ≡ true = kind_fits (positional built.split 0) built.kind (rw same c) built.named in
+        subst (λ (t : BuildTask). IsOfferedPlan t.plan) (sym built.is) (options_fit built.split built.kind kind_offered options built.free)
 
     by_split : (o : Option Split) → well_formed 2 (split_words rest) ≡ o → offered_build sux_offer o (command (word ∷ rest)) ≡ build b → IsOfferedPlan b.plan
     by_split None formed h = absurd (let built = (build_word word rest b h).1 in let both : Some built.split ≡ None = sym built.formed ∙ formed in cc)

@@ -1,4 +1,4 @@
-//! What the words of a command line are to do: the task of the program over static functions, or the first rule of usage that they break.
+//! What the words of a command line are to do: the task of the program, or the first rule of usage that they break.
 #![tactic(auto)]
 
 ghost use Rattle.std.specs.Prelude.{◌≡◌, IfOk};

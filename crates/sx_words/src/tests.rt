@@ -1,6 +1,6 @@
 //! Words and the tasks that they are.
 
-use crate::{Method, OptionName, Rule, Task, read_words};
+use crate::{Kind, Method, OptionName, Rule, Task, read_words};
 use std::alloc::{AllocError, Global};
 use std::process::Abort;
 use std::test::Fail;
@@ -46,10 +46,33 @@ fn refused_words(rt: HostRuntime) -> Result<(), Fail> {
         ("build func D --seeds=", Some(Rule::BadWords)),
         ("build func D --seeds --values", Some(Rule::BadWords)),
         ("build tree D --signed 8", Some(Rule::BadWords)),
-        ("build func D --log-bucket 5", Some(Rule::BadWords)),
+        ("build lcp D --handle-bits 5", Some(Rule::BadWords)),
         ("build func D --frob 5", Some(Rule::BadWords)),
         ("build tree D", Some(Rule::UnknownKind)),
-        ("build lcp D --sig-bits 193", Some(Rule::UnknownKind)),
+        ("build hollow D", Some(Rule::UnknownKind)),
+        ("build hollow D --sig-bits 193", Some(Rule::UnknownKind)),
+        (
+            "build lcp D --log-bucket 13",
+            Some(Rule::BadValue(OptionName::LogBucket)),
+        ),
+        (
+            "build func D --log-bucket 13",
+            Some(Rule::BadValue(OptionName::LogBucket)),
+        ),
+        (
+            "build func D --log-bucket 3",
+            Some(Rule::DoesNotGo {
+                name: OptionName::LogBucket,
+                kind: Kind::Func,
+            }),
+        ),
+        (
+            "build lcp D --values f",
+            Some(Rule::DoesNotGo {
+                name: OptionName::Values,
+                kind: Kind::Lcp,
+            }),
+        ),
         (
             "build func D --sig-bits 193",
             Some(Rule::BadValue(OptionName::SigBits)),
@@ -168,6 +191,27 @@ fn builds(rt: HostRuntime) -> Result<(), Fail> {
         192,
         None,
     );
+    Ok(())
+}
+
+#[test]
+fn builds_in_blocks(rt: HostRuntime) -> Result<(), Fail> {
+    let alloc = rt.alloc();
+    let cases = [
+        ("build lcp D --log-bucket 3", Kind::Lcp, 3),
+        ("build lcp2 D --log-bucket=12", Kind::Lcp2, 12),
+        ("build lcp2 D", Kind::Lcp2, 5),
+    ];
+    for (line, kind, log_bucket) in cases {
+        match task(alloc, line)? {
+            Task::Build(build) => {
+                assert_eq!(rt; build.plan.kind, kind, "{line}");
+                assert_eq!(rt; build.plan.log_bucket, log_bucket, "{line}");
+                assert_eq!(rt; build.plan.handle_bits, 0, "{line}");
+            }
+            _ => assert!(rt; false, "{line}"),
+        }
+    }
     Ok(())
 }
 

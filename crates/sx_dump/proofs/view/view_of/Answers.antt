@@ -1,6 +1,6 @@
 use Rattle.std.proofs.Common.{◌≡◌, subst}
 use Rattle.sx_spec_kinds.specs.declared.Kind.TheVariants.{Func}
-use Rattle.sx_dump.specs.Viewing.{IsFuncView}
+use Rattle.sx_dump.specs.Viewing.{IsFuncView, IsLcp2View, IsLcpView}
 use Rattle.sx_dump.proofs.Sections.{func_values, function_there, kind_is}
 use Rattle.sx_dump.proofs.view.view_of.Goals as goal
 
@@ -11,12 +11,34 @@ function_at-requires-clause-function g c =
     let is = c.requires in
     function_there words o.header o.places.items is 0 _ _ _ _ (func_values words o.header o.places.items is (kind_is words o.header o.places.items is Func c.in-Func.is))
 
-pub returns : goal.returns
-returns g c =
+pub returns-in-Func : goal.returns-in-Func
+returns-in-Func g c =
     let words = g.B.WordBank.words_of c.args.bank in
     let o = c.args.opened.now in
     let view : IsFuncView words c.function_at.result = record {
       kind = kind_is words o.header o.places.items c.requires Func c.in-Func.is;
       values = c.function_at.ensures;
     } in
-    record { func = λ v same. let e : c.function_at.result ≡ v = cc in subst (λ w. IsFuncView words w) e view }
+    record {
+      func = λ v same. let e : c.function_at.result ≡ v = cc in subst (λ w. IsFuncView words w) e view;
+      lcp = λ v same. absurd cc;
+      lcp2 = λ v same. absurd cc;
+    }
+
+pub returns-in-Lcp : goal.returns-in-Lcp
+returns-in-Lcp g c =
+    let words = g.B.WordBank.words_of c.args.bank in
+    record {
+      func = λ v same. absurd cc;
+      lcp = λ v same. let e : c.lcp_view.result ≡ v = cc in subst (λ w. IsLcpView words w) e c.lcp_view.ensures;
+      lcp2 = λ v same. absurd cc;
+    }
+
+pub returns-in-Lcp2 : goal.returns-in-Lcp2
+returns-in-Lcp2 g c =
+    let words = g.B.WordBank.words_of c.args.bank in
+    record {
+      func = λ v same. absurd cc;
+      lcp = λ v same. absurd cc;
+      lcp2 = λ v same. let e : c.lcp2_view.result ≡ v = cc in subst (λ w. IsLcp2View words w) e c.lcp2_view.ensures;
+    }

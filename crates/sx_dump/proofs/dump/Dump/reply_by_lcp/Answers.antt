@@ -1,0 +1,23 @@
+use Rattle.std.proofs.Common.{◌≡◌, FitsSigned, arith, rules, ap, ◌∙◌}
+use Rattle.std.specs.Int.{w128}
+use Rattle.std.proofs.lemmas.Int.{to_z-of_z}
+use Rattle.sx_spec_kinds.specs.declared.Kind.TheVariants.{Lcp}
+use Rattle.sx_spec.specs.Reply.{reply_number}
+use Rattle.sx_dump.proofs.Replies.{lcp_reply_is, reads_are}
+use Rattle.sx_dump.proofs.dump.Dump.reply_by_lcp.Goals as goal
+
+pub returns-clause-value : goal.returns-clause-value
+returns-clause-value g c =
+    let d = c.args.self.now in
+    let words = g.B.WordBank.words_of d.bank in
+    let fits : FitsSigned w128 c.number_of.result = search rules in
+    to_z-of_z w128 c.number_of.result fits
+    ∙ c.number_of.ensures
+    ∙ ap reply_number (c.answer.ensures.value ∙ lcp_reply_is words d.header d.places.items d.opened c.args.lcp.now c.requires.view c.args.line.now _ c.key_bits-key.ensures)
+
+pub returns-clause-cost : goal.returns-clause-cost
+returns-clause-cost g c =
+    let d = c.args.self.now in
+    let words = g.B.WordBank.words_of d.bank in
+    let cost = reads_are words d.header d.places.items d.opened Lcp c.requires.view.kind c.args.line.now in
+    omega (arith, cost)
