@@ -1,5 +1,5 @@
 -- From sections that are built to a dump, for any kind.
-use Rattle.std.proofs.Common.{◌≡◌, ℕ, ◌+◌, ◌*◌, ◌^◌, ◌<◌, ◌≤◌, List, length, map, Vec, Global, Result, Ok, Err, IfOk, MatchResult, refl, sym, ap, subst, ◌∙◌, arith}
+use Rattle.std.proofs.Common.{◌≡◌, ℕ, ◌+◌, ◌*◌, ◌^◌, ◌<◌, ◌≤◌, List, [], length, map, Vec, Global, Result, Ok, Err, IfOk, MatchResult, refl, sym, ap, subst, ◌∙◌, arith}
 use Rattle.std.specs.Prelude.{flat_map}
 use Rattle.std.proofs.lemmas.List.{length-append}
 use Rattle.sx_spec.specs.declared.Limits.{Limits}
@@ -23,6 +23,7 @@ use Rattle.sx_dump.specs.declared.assembling.layout.SectionBuf.{SectionBuf}
 use Rattle.sx_dump.specs.declared.assembling.parts.Stop.{Stop}
 use Rattle.sx_dump.specs.declared.assembling.parts.Stop.TheVariants.{Memory, Part as PartStop}
 use Rattle.sx_dump.specs.Assembling.{IsAssembled, IsDumpOf, IsFailure, failure_of, tries}
+use Rattle.sx_dump.specs.Ranking.{IsRanked}
 use Rattle.sx_dump.specs.Sectioning.{AreSectionsOf, IsFinished, StopsParts, header_for, held_words, section_built}
 use Rattle.sx_dump.proofs.Layouts.{sections_laid}
 use Rattle.sx_dump.proofs.PartLists.{all_built, all_fit, works}
@@ -108,3 +109,14 @@ pub all_assembled : {E : Type 0} (lines : List Text) (values : List ℕ) (seed :
     → h ≡ header_for plan lines seed → IfOk o (IsFinished h r) → IfOk o (IsAssembled lines values plan seed)
 all_assembled lines values seed plan sources width narrow same r h (Err e) are for is = tt
 all_assembled lines values seed plan sources width narrow same r h (Ok a) are for is = assembled_by lines values seed plan sources width narrow same r a are (subst (λ (k : Header). IsFinished k r a) for is)
+
+-- what keys come to whose parts don't depend on values
+pub all_ranked : {E : Type 0} (lines : List Text) (seed : ℕ) (plan : Plan) → ((values : List ℕ) → length values ≡ length lines → AreSources lines values seed plan) → ((width width' : ℕ) (values values' : List ℕ) → parts_of plan width lines values ≡ parts_of plan width' lines values')
+    → (r : Result (Vec SectionBuf Global) Stop) (h : Header) (o : Result Assembled E)
+    → MatchResult r (λ s. AreSectionsOf plan lines seed (parts_of plan 0 lines []) s.items) (StopsParts plan seed (parts_of plan 0 lines []))
+    → h ≡ header_for plan lines seed → IfOk o (IsFinished h r) → IfOk o (IsRanked lines plan seed)
+all_ranked lines seed plan sources same r h (Err e) are for is = tt
+all_ranked lines seed plan sources same r h (Ok a) are for is =
+    λ values as_many. assembled_by lines values seed plan (sources values as_many) 0 (omega arith) (same 0 (least_width values) values values) r a
+    (subst (λ (ps : List Part). MatchResult r (λ s. AreSectionsOf plan lines seed ps s.items) (StopsParts plan seed ps)) (same 0 0 [] values) are)
+    (subst (λ (k : Header). IsFinished k r a) for is)

@@ -114,7 +114,7 @@ kind_shown HollowDist h is = absurd is
 kind_shown Zfast h is = absurd is
 
 -- a kind that is offered is one of functions and lists
-offered_shown : (kind : Kind) → is_offered (Func ∷ []) kind ≡ true → IsShownKind kind
+offered_shown : (kind : Kind) → is_offered sux_offer.kinds kind ≡ true → IsShownKind kind
 offered_shown Func is = tt
 offered_shown Lcp is = tt
 offered_shown Lcp2 is = tt

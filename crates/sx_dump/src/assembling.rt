@@ -9,11 +9,15 @@ ghost use Rattle.sx_dump.specs.Assembling.{IsAssembled};
 ghost use Rattle.sx_dump.specs.Sectioning.{AreLaidOut, AreSectionsOf, IsFinished, StopsParts, header_for};
 
 mod layout;
+mod lcp;
+mod lcp2;
 mod numbers;
 mod parts;
 mod signatures;
 
 use layout::{SectionBuf, dump_words};
+pub use lcp::assemble_lcp;
+pub use lcp2::assemble_lcp2;
 use parts::{Stop, build_least};
 use signatures::sign_keys;
 use std::alloc::{AllocError, Global};

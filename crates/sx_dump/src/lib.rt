@@ -8,7 +8,7 @@ mod show;
 mod view;
 mod words;
 
-pub use assembling::{Assembled, PartCause, PartFault, assemble};
+pub use assembling::{Assembled, PartCause, PartFault, assemble, assemble_lcp, assemble_lcp2};
 pub use dump::Dump;
 pub use open::{OpenFault, open_dump};
 pub use sx_static::Witness;

@@ -1,10 +1,11 @@
 //! The signatures of keys and of pieces of them.
 
-ghost use Rattle.std.specs.Prelude.{◌≡◌, ◌≤◌, IfOk, map};
+ghost use Rattle.std.specs.Prelude.{◌≡◌, ◌<◌, ◌≤◌, All, IfOk, length, map};
 ghost use Rattle.std.specs.List.{AllByRecursion};
 ghost use Rattle.sx_bits.specs.KeyLists.{IsKeyList};
 ghost use Rattle.sx_bits.specs.Pieces.{IsPiece};
 ghost use Rattle.sx_dump.specs.Assembling.{key_signature};
+ghost use Rattle.sx_dump.specs.Ranking.{signature_at};
 ghost use Rattle.sx_dump.specs.Sectioning.{piece_signature};
 
 use std::alloc::{AllocError, Global};
@@ -48,4 +49,20 @@ pub(crate) fn sign_pieces(
         sigs.push(sign(seed, &keys.piece(piece), piece.tag, sig_bits))?;
     }
     Ok(sigs)
+}
+
+/// The signatures at these places.
+pub(crate) fn signatures_at(
+    alloc: Global,
+    sigs: &[Signature],
+    places: &[u32],
+) -> Result<Vec<Signature>, AllocError>
+    requires { All (λ i. i < length sigs.now) places.now }
+    ensures { IfOk result (λ chosen. chosen.items ≡ map (signature_at sigs.now) places.now) }
+{
+    let mut chosen = Vec::with_capacity(alloc, places.len())?;
+    for place in places {
+        chosen.push(sigs[*place as usize])?;
+    }
+    Ok(chosen)
 }
