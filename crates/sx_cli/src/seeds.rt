@@ -7,8 +7,8 @@ ghost use Rattle.sx_cli.specs.Building.{IsTried};
 
 use std::alloc::{AllocError, Global};
 use std::sync::ledger::Ledger;
+use sx_assemble::{Assembled, assemble};
 use sx_bits::KeyList;
-use sx_dump::{Assembled, assemble};
 use sx_spec::Plan;
 use sx_steps::Steps;
 use sx_text::failures::push_failure;

@@ -1,15 +1,4 @@
-pub mod Cells
-pub mod BuiltDumps
-pub mod Layouts
-pub mod PartLists
-pub mod CodePairs
-pub mod KeyPairs
-pub mod KeyParts
-pub mod Lcp2Dumps
-pub mod LcpDumps
-pub mod NarrowValues
 pub mod Pieces
-pub mod Signing
 pub mod Openings
 pub mod Replies
 pub mod Sections

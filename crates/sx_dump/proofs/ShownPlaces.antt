@@ -15,6 +15,7 @@ use Rattle.sx_fields.specs.declared.section.Section.{Section as Packed}
 use Rattle.sx_spec.specs.Fields.{fields}
 use Rattle.sx_sections.specs.declared.name.SectionName.{SectionName}
 use Rattle.sx_sections.specs.declared.place.Place.{Place}
+use Rattle.sx_spec_program.specs.Program.{sux_offer}
 use Rattle.sx_sections.specs.declared.place.Place.TheVariants.{Function as FunctionPlace, List as ListPlace, Sums, Corrections}
 use Rattle.sx_sections.specs.declared.rule.Slot.{Slot as NamedSlot}
 use Rattle.sx_sections.specs.Lines.{chunk_line, entry_line, function_line, list_line}

@@ -1,0 +1,138 @@
+-- Dumps of distributors whose lengths have two-step codes: their parts and their sections.
+use Rattle.std.proofs.Common.{◌≡◌, ℕ, ◌+◌, ◌-◌, ◌*◌, ◌^◌, ◌<◌, ◌≤◌, List, [], ◌∷◌, length, map, Some, refl, sym, ap, subst, ◌∙◌, arith}
+use Rattle.std.specs.List.{AllByRecursion, AllZip}
+use Rattle.std.proofs.lemmas.List.{length-map}
+use Rattle.std.proofs.Math.Pow.{pow_pos}
+use Rattle.sx_spec_strings.specs.Bits.{Bits, key_bits}
+use Rattle.sx_spec_kinds.specs.declared.Kind.{Kind}
+use Rattle.sx_spec_kinds.specs.declared.Kind.TheVariants.{Lcp2}
+use Rattle.sx_spec_kinds.specs.Blocks.{block_size}
+use Rattle.sx_spec_kinds.specs.Lcp.{prefix_lens}
+use Rattle.sx_spec_kinds.specs.Pairs.{escaped_pairs, offsets_pairs, prefixes_pairs}
+use Rattle.sx_spec_kinds.specs.TwoStep.{two_step_of, width_of}
+use Rattle.sx_spec.specs.declared.Plan.{Plan}
+use Rattle.sx_spec.specs.Command.{Text}
+use Rattle.sx_spec.specs.Layout.{function_section, list_section}
+use Rattle.sx_spec.specs.Parts.{kind_parts, least_part, parts_of, two_step_part}
+use Rattle.sx_spec.specs.StaticFunction.{Part, part_entries}
+use Rattle.sx_spec.proofs.Members.{few_offsets, few_codes, few_escaped, few_prefixes}
+use Rattle.sx_fields.specs.Numbers.{Numbers as NumberList}
+use Rattle.sx_static.specs.declared.FuncBuf.{FuncBuf}
+use Rattle.sx_static.specs.Answer.{function_of}
+use Rattle.sx_assemble.specs.declared.layout.SectionBuf.TheVariants.{Function, Numbers}
+use Rattle.sx_assemble.specs.declared.parts.Stop.{Stop}
+use Rattle.sx_assemble.specs.Ranking.{IsBlockPlan}
+use Rattle.sx_assemble.specs.Sectioning.{AreSectionsOf, IsPartDone, StopsPart, StopsParts, header_for, held_words}
+use Rattle.sx_assemble.proofs.KeyParts.{unsigned_sections}
+use Rattle.sx_assemble.proofs.Layouts.{few_words, list_few}
+use Rattle.sx_assemble.proofs.LcpDumps.{entry_count}
+use Rattle.sx_assemble.proofs.PartLists.{cells_counted, function_few, stops_at, whole}
+
+-- the parts of a plan, by themselves
+abbrev pub offsets_part : Plan → List Text → Part
+offsets_part plan lines = least_part (offsets_pairs (block_size plan.log_bucket) (map key_bits lines))
+
+abbrev pub codes_part : Plan → List Text → Part
+codes_part plan lines = two_step_part (block_size plan.log_bucket) (map key_bits lines)
+
+abbrev pub escaped_part : Plan → List Text → Part
+escaped_part plan lines = least_part (escaped_pairs (block_size plan.log_bucket) (map key_bits lines))
+
+abbrev pub prefixes_part : Plan → List Text → Part
+prefixes_part plan lines = least_part (prefixes_pairs (block_size plan.log_bucket) (map key_bits lines))
+
+module _ (plan : Plan) (lines : List Text) (seed : ℕ) (is : IsBlockPlan Lcp2 plan) where
+  abbrev b : ℕ
+  b = block_size plan.log_bucket
+
+  abbrev keys : List Bits
+  keys = map key_bits lines
+
+  abbrev all : List Part
+  all = offsets_part plan lines ∷ codes_part plan lines ∷ escaped_part plan lines ∷ prefixes_part plan lines ∷ []
+
+  lcp2_parts_are : (width : ℕ) (values : List ℕ) → parts_of plan width lines values ≡ all
+  lcp2_parts_are width values = ap (λ (k : Kind). kind_parts k b width keys values) is.kind
+
+  pub lcp2_parts_same : (width width' : ℕ) (values values' : List ℕ) → parts_of plan width lines values ≡ parts_of plan width' lines values'
+  lcp2_parts_same width width' values values' = lcp2_parts_are width values ∙ sym (lcp2_parts_are width' values')
+
+  -- the parts before have functions, and this one has none
+  pub lcp2_stops_first : (stop : Stop) → StopsPart 0 plan.method (part_entries plan.sig_bits seed (offsets_part plan lines)) stop → StopsParts plan seed (parts_of plan 0 lines []) stop
+  lcp2_stops_first stop stops = subst (λ (ps : List Part). StopsParts plan seed ps stop) (sym (lcp2_parts_are 0 [])) (stops_at plan seed all [] 0 (offsets_part plan lines) stop tt refl stops)
+
+  module _ (offsets : FuncBuf) (offsets_done : IsPartDone plan seed (offsets_part plan lines) offsets) where
+    pub lcp2_stops_second : (stop : Stop) → StopsPart 1 plan.method (part_entries plan.sig_bits seed (codes_part plan lines)) stop → StopsParts plan seed (parts_of plan 0 lines []) stop
+    lcp2_stops_second stop stops = subst (λ (ps : List Part). StopsParts plan seed ps stop) (sym (lcp2_parts_are 0 [])) (stops_at plan seed all (offsets ∷ []) 1 (codes_part plan lines) stop (offsets_done, tt) refl stops)
+
+    module _ (codes : FuncBuf) (codes_done : IsPartDone plan seed (codes_part plan lines) codes) where
+      pub lcp2_stops_third : (stop : Stop) → StopsPart 2 plan.method (part_entries plan.sig_bits seed (escaped_part plan lines)) stop → StopsParts plan seed (parts_of plan 0 lines []) stop
+      lcp2_stops_third stop stops = subst (λ (ps : List Part). StopsParts plan seed ps stop) (sym (lcp2_parts_are 0 [])) (stops_at plan seed all (offsets ∷ codes ∷ []) 2 (escaped_part plan lines) stop (offsets_done, (codes_done, tt)) refl stops)
+
+      module _ (escaped : FuncBuf) (escaped_done : IsPartDone plan seed (escaped_part plan lines) escaped) where
+        pub lcp2_stops_fourth : (stop : Stop) → StopsPart 3 plan.method (part_entries plan.sig_bits seed (prefixes_part plan lines)) stop → StopsParts plan seed (parts_of plan 0 lines []) stop
+        lcp2_stops_fourth stop stops =
+            subst (λ (ps : List Part). StopsParts plan seed ps stop) (sym (lcp2_parts_are 0 []))
+            (stops_at plan seed all (offsets ∷ codes ∷ escaped ∷ []) 3 (prefixes_part plan lines) stop (offsets_done, (codes_done, (escaped_done, tt))) refl stops)
+
+        -- a function for each part, and the table between
+        pub lcp2_done : (prefixes : FuncBuf) (table : NumberList) → IsPartDone plan seed (prefixes_part plan lines) prefixes → length lines ≤ 4194304 → (offsets_part plan lines).width ≤ 64 → (codes_part plan lines).width ≤ 64 → escaped.width ≤ 64 → prefixes.width ≤ 64
+            → table.width ≡ width_of (prefix_lens (block_size plan.log_bucket) (map key_bits lines)) → table.items ≡ (two_step_of (prefix_lens (block_size plan.log_bucket) (map key_bits lines))).table → table.width ≤ 64 → length table.items ≤ 2 ^ 24
+            → AreSectionsOf plan lines seed (parts_of plan 0 lines []) (Function offsets ∷ Function codes ∷ Numbers table ∷ Function escaped ∷ Function prefixes ∷ [])
+        lcp2_done prefixes table prefixes_done few offsets_narrow codes_narrow escaped_narrow prefixes_narrow wide listed narrow short =
+            let count = length-map lines key_bits in
+            let some : 0 < b = pow_pos plan.log_bucket in
+            let entries : Part → List _ = λ (p : Part). part_entries plan.sig_bits seed p in
+            let few_0 : length (entries (offsets_part plan lines)) ≤ 4194304 = let e = entry_count plan.sig_bits seed (offsets_part plan lines) in let f = few_offsets b some keys in omega arith in
+            let few_1 : length (entries (codes_part plan lines)) ≤ 4194304 = let e = entry_count plan.sig_bits seed (codes_part plan lines) in let f = few_codes b some keys in omega arith in
+            let few_2 : length (entries (escaped_part plan lines)) ≤ 4194304 = let e = entry_count plan.sig_bits seed (escaped_part plan lines) in let f = few_escaped b some keys in omega arith in
+            let few_3 : length (entries (prefixes_part plan lines)) ≤ 4194304 = let e = entry_count plan.sig_bits seed (prefixes_part plan lines) in let f = few_prefixes b some keys in omega arith in
+            let sections = Function offsets ∷ Function codes ∷ Numbers table ∷ Function escaped ∷ Function prefixes ∷ [] in
+            let list : length (held_words (Numbers table)) ≤ 2 ^ 24 + 2 = let l = list_few table narrow in omega arith in
+            let words = few_words sections (
+              function_few plan.method (offsets_part plan lines).width (entries (offsets_part plan lines)) offsets offsets_done few_0 offsets_narrow,
+              (
+                function_few plan.method (codes_part plan lines).width (entries (codes_part plan lines)) codes codes_done few_1 codes_narrow,
+                (
+                  list,
+                  (
+                    function_few plan.method (escaped_part plan lines).width (entries (escaped_part plan lines)) escaped escaped_done few_2 (subst (λ (w : ℕ). w ≤ 64) escaped_done.built.width escaped_narrow),
+                    (function_few plan.method (prefixes_part plan lines).width (entries (prefixes_part plan lines)) prefixes prefixes_done few_3 (subst (λ (w : ℕ). w ≤ 64) prefixes_done.built.width prefixes_narrow), tt),
+                  ),
+                ),
+              ),
+            ) in
+            let functions = function_of offsets ∷ function_of codes ∷ function_of escaped ∷ function_of prefixes ∷ [] in
+            let are : AreSectionsOf plan lines seed all sections = record {
+              functions = offsets ∷ codes ∷ escaped ∷ prefixes ∷ [];
+              done = (offsets_done, (codes_done, (escaped_done, (prefixes_done, tt))));
+              built = (λ i. function_section (function_of offsets) ∷ function_section (function_of codes) ∷ list_section (wide i) (listed i) ∷ function_section (function_of escaped) ∷ function_section (function_of prefixes) ∷ [])
+                  ∙ sym (unsigned_sections (header_for plan lines seed) Lcp2 functions keys is.kind is.unsigned);
+              laid = record {
+                whole = (
+                  whole plan.method (offsets_part plan lines).width (entries (offsets_part plan lines)) offsets offsets_done,
+                  (
+                    whole plan.method (codes_part plan lines).width (entries (codes_part plan lines)) codes codes_done,
+                    (
+                      tt,
+                      (
+                        whole plan.method (escaped_part plan lines).width (entries (escaped_part plan lines)) escaped escaped_done,
+                        (whole plan.method (prefixes_part plan lines).width (entries (prefixes_part plan lines)) prefixes prefixes_done, tt),
+                      ),
+                    ),
+                  ),
+                );
+                few = omega arith;
+              };
+              cells = (
+                cells_counted plan.method (offsets_part plan lines).width (entries (offsets_part plan lines)) offsets offsets_done few_0,
+                (
+                  cells_counted plan.method (codes_part plan lines).width (entries (codes_part plan lines)) codes codes_done few_1,
+                  (
+                    cells_counted plan.method (escaped_part plan lines).width (entries (escaped_part plan lines)) escaped escaped_done few_2,
+                    (cells_counted plan.method (prefixes_part plan lines).width (entries (prefixes_part plan lines)) prefixes prefixes_done few_3, tt),
+                  ),
+                ),
+              );
+            } in
+            subst (λ (ps : List Part). AreSectionsOf plan lines seed ps sections) (sym (lcp2_parts_are 0 [])) are

@@ -1,0 +1,12 @@
+pub mod Cells
+pub mod BuiltDumps
+pub mod Layouts
+pub mod PartLists
+pub mod CodePairs
+pub mod KeyPairs
+pub mod KeyParts
+pub mod Lcp2Dumps
+pub mod LcpDumps
+pub mod NarrowValues
+pub mod Signing
+pub mod OfferedPlans

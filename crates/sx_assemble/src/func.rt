@@ -1,0 +1,56 @@
+//! Dumps of static functions.
+
+ghost use Rattle.std.specs.Prelude.{◌≡◌, IfOk, MatchResult, length};
+ghost use Rattle.sx_spec.specs.Parts.{least_width as least_width_of, parts_of};
+ghost use Rattle.sx_assemble.specs.Assembling.{IsAssembled, IsFuncPlan};
+ghost use Rattle.sx_assemble.specs.Sectioning.{AreSectionsOf, StopsParts};
+
+use crate::layout::SectionBuf;
+use crate::parts::{Stop, build_least};
+use crate::signatures::sign_keys;
+use crate::{Assembled, finished, header_of};
+use std::alloc::{AllocError, Global};
+use sx_bits::KeyList;
+use sx_sig::Plan;
+
+/// The section of the static function that gives each key its value. A value takes as many bits as
+/// the greatest has.
+fn func_sections(
+    alloc: Global,
+    keys: &KeyList,
+    values: &[u64],
+    plan: &Plan,
+    seed: u64,
+) -> Result<Vec<SectionBuf>, Stop>
+    requires plan { IsFuncPlan plan.now }
+    requires values { length values.now ≡ length keys.now.lines }
+    ensures { let parts = parts_of plan.now (least_width_of values.now) keys.now.lines values.now in
+        MatchResult result (λ s. AreSectionsOf plan.now keys.now.lines seed parts s.items)
+        (StopsParts plan.now seed parts) }
+{
+    let sigs = sign_keys(alloc, keys, seed, plan.sig_bits)?;
+    let function = build_least(alloc, 0, &sigs, values, plan.method)?;
+    Ok(vec![in alloc; SectionBuf::Function(function)]?)
+}
+
+/// Builds the static function that gives each key its value, and lays out its dump in words, or
+/// tells why the seed doesn't work. The plan is one of an unsigned `func` with signatures of at most
+/// 192 bits, and there are as many values as keys. A value takes as many bits as the greatest has.
+///
+/// # Errors
+///
+/// Want of memory.
+pub(crate) fn assemble_func(
+    alloc: Global,
+    keys: &KeyList,
+    values: &[u64],
+    plan: &Plan,
+    seed: u64,
+) -> Result<Assembled, AllocError>
+    requires plan { IsFuncPlan plan.now }
+    requires values { length values.now ≡ length keys.now.lines }
+    ensures { IfOk result (IsAssembled keys.now.lines values.now plan.now seed) }
+{
+    let sections = func_sections(alloc, keys, values, plan, seed);
+    finished(alloc, &header_of(keys, plan, seed), sections)
+}
