@@ -1,4 +1,4 @@
-use Rattle.std.proofs.Common.{◌≡◌, ap, sym, subst, ◌∙◌}
+use Rattle.std.proofs.Common.{ap, sym, subst, ◌∙◌}
 use Rattle.sx_spec_kinds.specs.declared.Kind.TheVariants.{Lcp}
 use Rattle.sx_spec.specs.Layout.{Header}
 use Rattle.sx_dump.specs.Viewing.{ReadsFunction}
