@@ -96,7 +96,8 @@ pub(crate) fn numbers_at(
     places: &[u32],
 ) -> Result<Vec<u64>, AllocError>
     requires { All (λ i. i < length numbers.now) places.now }
-    ensures { IfOk result (λ chosen. chosen.items ≡ map (λ i. slice_index numbers.now i) places.now) }
+    ensures { IfOk result
+        (λ chosen. chosen.items ≡ map (λ i. slice_index numbers.now i) places.now) }
 {
     let mut chosen = Vec::with_capacity(alloc, places.len())?;
     for place in places {

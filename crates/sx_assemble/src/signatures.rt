@@ -20,7 +20,8 @@ pub(crate) fn sign_keys(
     sig_bits: u32,
 ) -> Result<Vec<Signature>, AllocError>
     requires { sig_bits ≤ 192 }
-    ensures signed { IfOk result (λ sigs. sigs.items ≡ map (key_signature seed sig_bits) keys.now.lines) }
+    ensures signed { IfOk result
+        (λ sigs. sigs.items ≡ map (key_signature seed sig_bits) keys.now.lines) }
     ensures keys { IsKeyList keys.now }
 {
     let count = keys.len();

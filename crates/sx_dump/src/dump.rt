@@ -79,7 +79,8 @@ impl<B: WordBank + Copy> Dump<B> {
     #[inline(always)]
     pub fn reply<L: Ledger>(&self, line: &[u8], steps: &mut Steps<L>) -> i128
         requires { length line.now ≤ 8191 }
-        ensures value { result ≡ reply_number (reply (dump_in (B.words_of self.now.bank)) line.now) }
+        ensures value { result
+            ≡ reply_number (reply (dump_in (B.words_of self.now.bank)) line.now) }
         ensures counted { steps.old ≤ steps.new }
         ensures cost { steps.new ≤ steps.old + reads (dump_in (B.words_of self.now.bank)) line.now }
     {
@@ -100,7 +101,8 @@ impl<B: WordBank + Copy> Dump<B> {
     ) -> i128
         requires short { length line.now ≤ 8191 }
         requires function { IsFuncView (B.words_of self.now.bank) values.now }
-        ensures value { result ≡ reply_number (reply (dump_in (B.words_of self.now.bank)) line.now) }
+        ensures value { result
+            ≡ reply_number (reply (dump_in (B.words_of self.now.bank)) line.now) }
         ensures counted { steps.old ≤ steps.new }
         ensures cost { steps.new ≤ steps.old + reads (dump_in (B.words_of self.now.bank)) line.now }
     {
@@ -118,7 +120,8 @@ impl<B: WordBank + Copy> Dump<B> {
     fn reply_by_lcp<L: Ledger>(&self, lcp: &LcpView<B>, line: &[u8], steps: &mut Steps<L>) -> i128
         requires short { length line.now ≤ 8191 }
         requires view { IsLcpView (B.words_of self.now.bank) lcp.now }
-        ensures value { result ≡ reply_number (reply (dump_in (B.words_of self.now.bank)) line.now) }
+        ensures value { result
+            ≡ reply_number (reply (dump_in (B.words_of self.now.bank)) line.now) }
         ensures counted { steps.old ≤ steps.new }
         ensures cost { steps.new ≤ steps.old + reads (dump_in (B.words_of self.now.bank)) line.now }
     {
@@ -137,7 +140,8 @@ impl<B: WordBank + Copy> Dump<B> {
     ) -> i128
         requires short { length line.now ≤ 8191 }
         requires view { IsLcp2View (B.words_of self.now.bank) lcp2.now }
-        ensures value { result ≡ reply_number (reply (dump_in (B.words_of self.now.bank)) line.now) }
+        ensures value { result
+            ≡ reply_number (reply (dump_in (B.words_of self.now.bank)) line.now) }
         ensures counted { steps.old ≤ steps.new }
         ensures cost { steps.new ≤ steps.old + reads (dump_in (B.words_of self.now.bank)) line.now }
     {

@@ -41,7 +41,8 @@ pub fn open_dump<B: WordBank + Copy>(
 ) -> Result<Dump<B>, OpenFault>
     requires size { length words.now ≡ div_ceil bytes 8 }
     requires bank { B.words_of bank ≡ words.now }
-    ensures found { IfOk result (λ d. opened_words words.now bytes ≡ Ok (dump_in (B.words_of d.bank))) }
+    ensures found { IfOk result
+        (λ d. opened_words words.now bytes ≡ Ok (dump_in (B.words_of d.bank))) }
     ensures refused { IfErr result (IsRefused words.now bytes) }
     ensures opened { IfOk result (λ d. (file : List ℕ) → IsFile words.now bytes file
         → opened_by sux_offer file ≡ Ok (dump_in (B.words_of d.bank))) }

@@ -40,9 +40,11 @@ const START_BITS: u32 = 58;
 
 /// Makes room for a further line: writes the page and begins anew where it is nearly full.
 fn make_room<O: Sink>(page: &mut Page, out: &mut O) -> Result<(), Failed>
-    ensures ok { OnOk result (IsShown (O.written out.old) (O.written out.new) page.old.bytes page.new.bytes) }
+    ensures ok { OnOk result (IsShown (O.written out.old) (O.written out.new) page.old.bytes
+        page.new.bytes) }
     ensures room { OnOk result (length page.new.bytes + 256 ≤ 4096) }
-    ensures failed { OnErr result (AppendsPrefix (O.written out.old) (O.written out.new) page.old.bytes) }
+    ensures failed { OnErr result (AppendsPrefix (O.written out.old) (O.written out.new)
+        page.old.bytes) }
     ensures cause { HasCause (O.faults out.old) (O.faults out.new) result }
 {
     if page.remaining_capacity() >= LINE {
@@ -75,7 +77,8 @@ fn chunk_at<B: WordBank + Copy, L: Ledger>(
     steps: &mut Steps<L>,
 ) -> (u64, u64)
     requires { i < chunk_count_of values.now.pairs }
-    ensures chunk { slice_get (viewed (B.words_of values.now.bank) values.now.first values.now.width values.now.pairs).chunks i
+    ensures chunk { slice_get (viewed (B.words_of values.now.bank) values.now.first values.now.width
+        values.now.pairs).chunks i
         ≡ Some (record { segment = result.0; try = result.1 }) }
     ensures cost { steps.new ≡ steps.old + 2 }
 {
@@ -275,8 +278,10 @@ impl<B: WordBank + Copy> Dump<B> {
     ///
     /// `Failed` where the sink fails; a prefix of the text was written then.
     pub fn show<O: Sink>(&self, out: &mut O) -> Result<(), Failed>
-        ensures ok { OnOk result (Appends (O.written out.old) (O.written out.new) (dump_text (dump_in (B.words_of self.now.bank)))) }
-        ensures failed { OnErr result (AppendsPrefix (O.written out.old) (O.written out.new) (dump_text (dump_in (B.words_of self.now.bank)))) }
+        ensures ok { OnOk result (Appends (O.written out.old) (O.written out.new)
+            (dump_text (dump_in (B.words_of self.now.bank)))) }
+        ensures failed { OnErr result (AppendsPrefix (O.written out.old) (O.written out.new)
+            (dump_text (dump_in (B.words_of self.now.bank)))) }
         ensures cause { HasCause (O.faults out.old) (O.faults out.new) result }
     {
         self.show_counted::<O, Brand>(out, Blank::new(1))
@@ -287,8 +292,10 @@ impl<B: WordBank + Copy> Dump<B> {
         requires name { blank.name ≡ L.name }
         requires parts { blank.parts ≡ L.parts }
         requires some { 0 < blank.parts }
-        ensures ok { OnOk result (Appends (O.written out.old) (O.written out.new) (text_in (B.words_of self.now.bank))) }
-        ensures failed { OnErr result (AppendsPrefix (O.written out.old) (O.written out.new) (text_in (B.words_of self.now.bank))) }
+        ensures ok { OnOk result (Appends (O.written out.old) (O.written out.new)
+            (text_in (B.words_of self.now.bank))) }
+        ensures failed { OnErr result (AppendsPrefix (O.written out.old) (O.written out.new)
+            (text_in (B.words_of self.now.bank))) }
         ensures cause { HasCause (O.faults out.old) (O.faults out.new) result }
     {
         let mut steps = Steps::<L>::new(blank);

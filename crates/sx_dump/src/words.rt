@@ -41,8 +41,10 @@ fn fill(buffer: &mut [u8], words: &[u64])
 /// `Failed` where a write fails.
 pub fn put_words<F: Shelf>(files: &mut F, words: &[u64]) -> Result<(), Failed>
     requires { F.in_use files.old ≡ writing }
-    ensures ok { OnOk result (AppendsFile (F.writing_to files.old) (F.files files.old) (F.files files.new) (words_bytes words.now)) }
-    ensures failed { OnErr result (AppendsFilePrefix (F.writing_to files.old) (F.files files.old) (F.files files.new) (words_bytes words.now)) }
+    ensures ok { OnOk result (AppendsFile (F.writing_to files.old) (F.files files.old)
+        (F.files files.new) (words_bytes words.now)) }
+    ensures failed { OnErr result (AppendsFilePrefix (F.writing_to files.old) (F.files files.old)
+        (F.files files.new) (words_bytes words.now)) }
     ensures stays { F.in_use files.new ≡ writing }
     ensures same { F.writing_to files.new ≡ F.writing_to files.old }
     ensures cause { HasCause (F.faults files.old) (F.faults files.new) result }
@@ -55,8 +57,10 @@ pub fn put_words<F: Shelf>(files: &mut F, words: &[u64]) -> Result<(), Failed>
 fn put_pieces<F: Shelf>(files: &mut F, words: &[u64], buffer: &mut [u8]) -> Result<(), Failed>
     requires writing { F.in_use files.old ≡ writing }
     requires room { length buffer.old ≡ 8192 }
-    ensures ok { OnOk result (AppendsFile (F.writing_to files.old) (F.files files.old) (F.files files.new) (words_bytes words.now)) }
-    ensures failed { OnErr result (AppendsFilePrefix (F.writing_to files.old) (F.files files.old) (F.files files.new) (words_bytes words.now)) }
+    ensures ok { OnOk result (AppendsFile (F.writing_to files.old) (F.files files.old)
+        (F.files files.new) (words_bytes words.now)) }
+    ensures failed { OnErr result (AppendsFilePrefix (F.writing_to files.old) (F.files files.old)
+        (F.files files.new) (words_bytes words.now)) }
     ensures stays { F.in_use files.new ≡ writing }
     ensures same { F.writing_to files.new ≡ F.writing_to files.old }
     ensures cause { HasCause (F.faults files.old) (F.faults files.new) result }
@@ -99,7 +103,8 @@ fn word_at(bytes: &[u8], i: usize) -> u64
 /// Want of memory.
 pub fn push_words(words: &mut Vec<u64>, bytes: &[u8]) -> Result<(), AllocError>
     ensures words { OnOk result (words.new.items ≡ words.old.items ++ bytes_words bytes.now) }
-    ensures small { OnOk result (All (λ w. w < 2 ^ 64) words.old.items → All (λ w. w < 2 ^ 64) words.new.items) }
+    ensures small { OnOk result (All (λ w. w < 2 ^ 64) words.old.items → All
+        (λ w. w < 2 ^ 64) words.new.items) }
 {
     for i in 0..bytes.len().div_ceil(8) {
         words.push(word_at(bytes, i))?;

@@ -42,7 +42,8 @@ pub fn signed() -> u32
 
 /// Whether the kind is offered.
 pub fn offers_kind(kind: Kind) -> bool
-    ensures { result ≡ list_any (λ offered. bytes_eq (word_of_kind offered) (word_of_kind kind)) sux_offer.kinds }
+    ensures { result ≡ list_any
+        (λ offered. bytes_eq (word_of_kind offered) (word_of_kind kind)) sux_offer.kinds }
 {
     KINDS
         .iter()

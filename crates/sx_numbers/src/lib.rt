@@ -11,7 +11,8 @@ mod tests;
 
 /// The number of 64 bits that digits write.
 fn digits_value(text: &[u8]) -> Option<u64>
-    ensures { result ≡ (if list_all is_ascii_digit text.now && nat_lt (numeral_value text.now) (2 ^ 64) then Some (numeral_value text.now) else None) }
+    ensures { result ≡ (if list_all is_ascii_digit text.now && nat_lt (numeral_value text.now)
+        (2 ^ 64) then Some (numeral_value text.now) else None) }
 {
     let mut number: u64 = 0;
     for byte in text {

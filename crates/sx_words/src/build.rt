@@ -65,7 +65,8 @@ fn first_unfit(split: &WordSplit, kind: Kind) -> Option<OptionName>
 
 /// Whether a signed width is given and values too.
 fn excludes_itself(split: &WordSplit) -> bool
-    ensures { result ≡ (usage.is_given split.now SignedName && usage.is_given split.now ValuesName) }
+    ensures { result
+        ≡ (usage.is_given split.now SignedName && usage.is_given split.now ValuesName) }
 {
     split.is_given(OptionName::Signed) && split.is_given(OptionName::Values)
 }
@@ -108,7 +109,8 @@ fn option_number(split: &WordSplit, kind: Kind, name: OptionName, default: u32) 
 
 /// The method that is given, or the first one.
 fn method_given(split: &WordSplit) -> Method
-    ensures { result ≡ unwrap_or (option_and_then usage.method_named (usage.setting split.now MethodName)) Mwhc }
+    ensures { result
+        ≡ unwrap_or (option_and_then usage.method_named (usage.setting split.now MethodName)) Mwhc }
 {
     match split.setting(OptionName::Method) {
         Some(word) => method_named(word).unwrap_or(Method::Mwhc),
@@ -118,7 +120,8 @@ fn method_given(split: &WordSplit) -> Method
 
 /// The seeds that are given, or the standard ones.
 fn seeds_given(alloc: Global, split: &WordSplit) -> Result<Seeds, AllocError>
-    ensures { IfOk result (λ seeds. seeds ≡ unwrap_or (option_and_then usage.seeds_in (usage.setting split.now SeedsName)) usage.default_seeds) }
+    ensures { IfOk result (λ seeds. seeds ≡ unwrap_or
+        (option_and_then usage.seeds_in (usage.setting split.now SeedsName)) usage.default_seeds) }
 {
     match split.setting(OptionName::Seeds) {
         Some(text) => seeds_listed(alloc, text),
@@ -194,7 +197,8 @@ fn offers_all(split: &WordSplit) -> bool
 /// The words of `build`, if they are well formed.
 fn well_formed_words(alloc: Global, words: &WordList) -> Result<Option<WordSplit>, AllocError>
     requires { 1 ≤ length words.now }
-    ensures { IfOk result (λ split. split ≡ usage.well_formed 2 (usage.split_words (drop 1 words.now))) }
+    ensures { IfOk result
+        (λ split. split ≡ usage.well_formed 2 (usage.split_words (drop 1 words.now))) }
 {
     let Some(split) = split_words(alloc, words, 1)? else {
         return Ok(None);
@@ -209,7 +213,8 @@ fn well_formed_words(alloc: Global, words: &WordList) -> Result<Option<WordSplit
 /// The task of `build`, whose word is the first.
 pub fn read_build(alloc: Global, words: &WordList) -> Result<Task, AllocError>
     requires { 1 ≤ length words.now }
-    ensures { IfOk result (λ task. task_of task ≡ split_task (usage.well_formed 2 (usage.split_words (drop 1 words.now)))) }
+    ensures { IfOk result (λ task. task_of task ≡ split_task
+        (usage.well_formed 2 (usage.split_words (drop 1 words.now)))) }
 {
     let Some(split) = well_formed_words(alloc, words)? else {
         return Ok(Task::Usage(Rule::BadWords));

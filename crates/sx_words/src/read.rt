@@ -40,7 +40,8 @@ fn task_over(command: Command, name: Option<Name>) -> Task
 /// The task of a command over one dump, whose word is the first. `build` isn't one.
 fn read_over(alloc: Global, command: Command, words: &WordList) -> Result<Task, AllocError>
     requires { 1 ≤ length words.now }
-    ensures { IfOk result (λ task. task_of task ≡ dump_task command (only_word (drop 1 words.now))) }
+    ensures { IfOk result
+        (λ task. task_of task ≡ dump_task command (only_word (drop 1 words.now))) }
 {
     let name = read_only_word(alloc, words)?;
     Ok(task_over(command, name))

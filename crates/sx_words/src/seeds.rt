@@ -65,7 +65,8 @@ fn are_numbers(text: &str) -> bool
 
 /// Their numbers, 0 where there is none.
 fn numbers_in(alloc: Global, text: &str) -> Result<Vec<u64>, AllocError>
-    ensures { IfOk result (λ numbers. numbers.items ≡ map (λ t. unwrap_or (value_on t) 0) (seed_texts text.now)) }
+    ensures { IfOk result
+        (λ numbers. numbers.items ≡ map (λ t. unwrap_or (value_on t) 0) (seed_texts text.now)) }
 {
     text.split(',')
         .map(|piece| number_of(piece.as_bytes()).unwrap_or(0))

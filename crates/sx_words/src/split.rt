@@ -96,7 +96,8 @@ fn setting_piece(
 
 /// What a word and the next one begin with.
 fn piece_at(alloc: Global, word: &str, next: Option<&str>) -> Result<Piece, AllocError>
-    ensures { IfOk result (λ piece. part_of piece ≡ part word.now (option_map (λ x. x.now) next.entry)) }
+    ensures { IfOk result
+        (λ piece. part_of piece ≡ part word.now (option_map (λ x. x.now) next.entry)) }
 {
     if !has_dash(word) {
         if word.is_empty() {
