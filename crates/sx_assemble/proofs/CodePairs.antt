@@ -1,21 +1,25 @@
 -- The pairs of two-step codes and of escaped lengths, as signatures and numbers.
-use Rattle.std.proofs.Common.{◌≡◌, ℕ, zero, suc, ◌+◌, ◌-◌, ◌*◌, ◌/◌, ◌^◌, ◌<◌, ◌≤◌, Bool, true, false, List, [], ◌∷◌, length, map, get_or, refl, sym, ap, subst, ◌∙◌, arith, inl, inr}
+use Rattle.std.proofs.Common.{◌≡◌, ℕ, zero, suc, ◌+◌, ◌-◌, ◌*◌, ◌/◌, ◌^◌, ◌<◌, ◌≤◌, Bool, true, false, List, [], ◌∷◌, All, length, map, get_or, refl, sym, ap, subst, ◌∙◌, arith, inl, inr}
 use Rattle.std.specs.Prelude.{filter, zip}
 use Rattle.std.specs.List.{AllByRecursion, enumerate_from, range_with_len, slice_index, slice_index_or}
 use Rattle.std.proofs.lemmas.Bool.{cases_Bool}
-use Rattle.std.proofs.lemmas.List.{get_or-map, length-map}
-use Rattle.std.proofs.lemmas.List.FromFn.{length-range_with_len}
+use Rattle.std.proofs.lemmas.List.{get_or-map, length-map, length-take}
+use Rattle.std.proofs.lemmas.List.Elements.{All-from_recursion}
+use Rattle.std.proofs.lemmas.List.FromFn.{length-enumerate_from, length-range_with_len}
 use Rattle.std.proofs.Math.Pow.{pow_pos}
 use Rattle.sx_spec_strings.specs.Bits.{Bits, key_bits}
+use Rattle.sx_spec_strings.specs.Ordered.{in_order, put}
 use Rattle.sx_spec_kinds.specs.Lcp.{block_prefix, prefix_lens}
 use Rattle.sx_spec_kinds.specs.Pairs.{Pairs, pair, escaped_pairs, two_step_pairs}
-use Rattle.sx_spec_kinds.specs.TwoStep.{bits_of, code_of, is_escaped, table_of, two_step_of}
+use Rattle.sx_spec_kinds.specs.TwoStep.{TwoStep, bits_of, code_of, comes_before, is_escaped, table_of, two_step_of, width_of}
 use Rattle.sx_spec_kinds.proofs.TwoStepLaws.{code_leads_back, length-table_of}
 use Rattle.sx_spec.specs.declared.Signature.{Signature}
 use Rattle.sx_spec.specs.Command.{Text}
 use Rattle.sx_spec.specs.Parts.{two_step_part}
 use Rattle.sx_spec.specs.Signature.{signature}
 use Rattle.sx_spec.specs.StaticFunction.{Entry, part_entries}
+use Rattle.sx_spec.proofs.Members.{length_filter_le}
+use Rattle.sx_spec.proofs.Widths.{table_fits_width}
 use Rattle.sx_static.specs.Answer.{entries_of}
 use Rattle.sx_assemble.specs.Assembling.{key_signature}
 use Rattle.sx_assemble.specs.Ranking.{ArePairs, no_signature, signature_at}
@@ -105,3 +109,62 @@ module _ (kept seed : ℕ) (lines : List Text) (b : ℕ) where
   unfolding two_step_pairs
   codes_are sigs codes signed coded =
       (λ j. zip ((signed ∙ keys_signed kept seed lines) j) (coded j)) ∙ coded_entries (signature seed kept) keys (two_step_of (prefix_lens b keys)).codes
+
+-- ---- the table
+
+put_length : (before : ℕ → ℕ → Bool) (x : ℕ) (xs : List ℕ) → length (put before x xs) ≤ length xs + 1
+put_length before x [] = omega arith
+put_length before x (y ∷ xs) =
+    let rest = put_length before x xs in
+    elim (cases_Bool (before x y)) [
+      | inl first ↦ rw first (omega arith)
+      | inr later ↦ elim (cases_Bool (before y x)) [
+        | inl after ↦ rw (later, after) (omega arith)
+        | inr same ↦ rw (later, same) (omega arith)
+      ]
+    ]
+
+order_length : (before : ℕ → ℕ → Bool) (xs : List ℕ) → length (in_order before xs) ≤ length xs
+order_length before [] = omega arith
+order_length before (x ∷ xs) =
+    let rest = order_length before xs in
+    let here = put_length before x (in_order before xs) in
+    omega arith
+
+-- the table has no more lengths than there are
+pub table_count : (values : List ℕ) → length (two_step_of values).table ≤ length values
+unfolding two_step_of table_of
+table_count values =
+    let all = order_length (comes_before values) values in
+    let part = length-take (2 ^ bits_of values - 1) (in_order (comes_before values) values) in
+    omega arith
+
+pub escaped_count : (values : List ℕ) → length (two_step_of values).escaped ≤ length values
+unfolding two_step_of
+escaped_count values =
+    let kept = filter (λ (t : ℕ × ℕ). is_escaped (table_of values (bits_of values)) t.1) (enumerate_from 0 values) in
+    let e = length-map kept (λ (t : ℕ × ℕ). t.0) in
+    let f = length_filter_le (λ (t : ℕ × ℕ). is_escaped (table_of values (bits_of values)) t.1) (enumerate_from 0 values) in
+    let g = length-enumerate_from 0 values in
+    omega arith
+
+-- ---- codes as they are built
+
+module _ (values : List ℕ) (t : TwoStep) (is : t ≡ two_step_of values) where
+  pub built_codes_fit : All (λ c. c < 2 ^ t.bits) t.codes
+  built_codes_fit = All-from_recursion (λ c. c < 2 ^ t.bits) t.codes (subst (λ (u : TwoStep). AllByRecursion (λ c. c < 2 ^ u.bits) u.codes) (sym is) (codes_fit values))
+
+  pub built_codes_count : length t.codes ≡ length values
+  built_codes_count = ap (λ (u : TwoStep). length u.codes) is ∙ codes_count values
+
+  pub built_escaped_within : All (λ i. i < length values) t.escaped
+  built_escaped_within = All-from_recursion (λ i. i < length values) t.escaped (subst (λ (u : TwoStep). AllByRecursion (λ i. i < length values) u.escaped) (sym is) (escaped_within values))
+
+  pub built_escaped_count : length t.escaped ≤ length values
+  built_escaped_count = let e = ap (λ (u : TwoStep). length u.escaped) is in let f = escaped_count values in omega arith
+
+  pub built_table_fits : All (λ v. v < 2 ^ width_of values) t.table
+  built_table_fits = All-from_recursion (λ v. v < 2 ^ width_of values) t.table (subst (λ (u : TwoStep). AllByRecursion (λ v. v < 2 ^ width_of values) u.table) (sym is) (table_fits_width values))
+
+  pub built_table_count : length t.table ≤ length values
+  built_table_count = let e = ap (λ (u : TwoStep). length u.table) is in let f = table_count values in omega arith

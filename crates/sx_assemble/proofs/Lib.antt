@@ -5,6 +5,7 @@ pub mod PartLists
 pub mod CodePairs
 pub mod KeyPairs
 pub mod KeyParts
+pub mod KeySizes
 pub mod Lcp2Dumps
 pub mod LcpDumps
 pub mod NarrowValues
