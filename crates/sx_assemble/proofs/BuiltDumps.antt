@@ -1,5 +1,5 @@
 -- From sections that are built to a dump, for any kind.
-use Rattle.std.proofs.Common.{◌≡◌, ℕ, ◌+◌, ◌*◌, ◌^◌, ◌<◌, ◌≤◌, List, [], length, map, Vec, Global, Result, Ok, Err, IfOk, MatchResult, refl, sym, ap, subst, ◌∙◌, arith}
+use Rattle.std.proofs.Common.{◌≡◌, ℕ, ◌^◌, ◌<◌, ◌≤◌, List, [], length, map, Vec, Global, Result, Ok, Err, IfOk, MatchResult, refl, sym, ap, subst, arith}
 use Rattle.std.specs.Prelude.{flat_map}
 use Rattle.std.proofs.lemmas.List.{length-append}
 use Rattle.sx_spec.specs.declared.Limits.{Limits}
@@ -22,9 +22,9 @@ use Rattle.sx_assemble.specs.declared.Assembled.TheVariants.{Words, SeedFailed}
 use Rattle.sx_assemble.specs.declared.layout.SectionBuf.{SectionBuf}
 use Rattle.sx_assemble.specs.declared.parts.Stop.{Stop}
 use Rattle.sx_assemble.specs.declared.parts.Stop.TheVariants.{Memory, Part as PartStop}
-use Rattle.sx_assemble.specs.Assembling.{IsAssembled, IsDumpOf, IsFailure, failure_of, tries}
+use Rattle.sx_assemble.specs.Assembling.{IsAssembled, IsDumpOf, IsFailure, tries}
 use Rattle.sx_assemble.specs.Ranking.{IsRanked}
-use Rattle.sx_assemble.specs.Sectioning.{AreSectionsOf, IsFinished, StopsParts, header_for, held_words, section_built}
+use Rattle.sx_assemble.specs.Sectioning.{AreSectionsOf, IsFinished, StopsParts, header_for, section_built}
 use Rattle.sx_assemble.proofs.Layouts.{sections_laid}
 use Rattle.sx_assemble.proofs.PartLists.{all_built, all_fit, works}
 

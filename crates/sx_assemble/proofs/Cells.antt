@@ -5,7 +5,6 @@ use Rattle.std.specs.List.{AllZip, range_with_len}
 use Rattle.std.proofs.lemmas.Bool.{cases_eq, eq-eqb, ne_eqb}
 use Rattle.std.proofs.Math.Nat.{mul-le-mul_left}
 use Rattle.sx_spec.specs.declared.Method.{Method}
-use Rattle.sx_spec.specs.Chunks.{segment}
 use Rattle.sx_spec.specs.Fields.{words_for}
 use Rattle.sx_spec.specs.StaticFunction.{Entry, Chunk, Function, cell_count, chunk_of_entry, chunk_entries, IsBuiltChunk}
 use Rattle.sx_spec.proofs.Sections.{cell_count-cons}

@@ -1,5 +1,5 @@
 -- The pairs of two-step codes and of escaped lengths, as signatures and numbers.
-use Rattle.std.proofs.Common.{◌≡◌, ℕ, zero, suc, ◌+◌, ◌-◌, ◌*◌, ◌/◌, ◌^◌, ◌<◌, ◌≤◌, Bool, true, false, List, [], ◌∷◌, All, length, map, get_or, refl, sym, ap, subst, ◌∙◌, arith, inl, inr}
+use Rattle.std.proofs.Common.{◌≡◌, ℕ, ◌+◌, ◌-◌, ◌/◌, ◌^◌, ◌<◌, ◌≤◌, Bool, List, [], ◌∷◌, All, length, map, get_or, refl, sym, ap, subst, ◌∙◌, arith, inl, inr}
 use Rattle.std.specs.Prelude.{filter, zip}
 use Rattle.std.specs.List.{AllByRecursion, enumerate_from, range_with_len, slice_index, slice_index_or}
 use Rattle.std.proofs.lemmas.Bool.{cases_Bool}
@@ -10,14 +10,14 @@ use Rattle.std.proofs.Math.Pow.{pow_pos}
 use Rattle.sx_spec_strings.specs.Bits.{Bits, key_bits}
 use Rattle.sx_spec_strings.specs.Ordered.{in_order, put}
 use Rattle.sx_spec_kinds.specs.Lcp.{block_prefix, prefix_lens}
-use Rattle.sx_spec_kinds.specs.Pairs.{Pairs, pair, escaped_pairs, two_step_pairs}
+use Rattle.sx_spec_kinds.specs.Pairs.{pair, escaped_pairs, two_step_pairs}
 use Rattle.sx_spec_kinds.specs.TwoStep.{TwoStep, bits_of, code_of, comes_before, is_escaped, table_of, two_step_of, width_of}
 use Rattle.sx_spec_kinds.proofs.TwoStepLaws.{code_leads_back, length-table_of}
 use Rattle.sx_spec.specs.declared.Signature.{Signature}
 use Rattle.sx_spec.specs.Command.{Text}
 use Rattle.sx_spec.specs.Parts.{two_step_part}
 use Rattle.sx_spec.specs.Signature.{signature}
-use Rattle.sx_spec.specs.StaticFunction.{Entry, part_entries}
+use Rattle.sx_spec.specs.StaticFunction.{part_entries}
 use Rattle.sx_spec.proofs.Members.{length_filter_le}
 use Rattle.sx_spec.proofs.Widths.{table_fits_width}
 use Rattle.sx_static.specs.Answer.{entries_of}

@@ -1,8 +1,8 @@
 -- The pairs of parts over keys, as signatures and numbers.
 use Rattle.std.proofs.Common.{◌≡◌, ℕ, zero, suc, ◌+◌, ◌*◌, ◌/◌, ◌%◌, ◌<◌, ◌≤◌, List, [], ◌∷◌, ◌++◌, length, map, take, get_or, refl, sym, ap, subst, ◌∙◌, arith, Result, MatchResult}
 use Rattle.std.specs.Prelude.{zip}
-use Rattle.std.specs.List.{enumerate_from, range_with_len, slice_index, slice_index_or}
-use Rattle.std.proofs.lemmas.List.{length-map, map-append, take_more, length-take-le}
+use Rattle.std.specs.List.{enumerate_from, range_with_len}
+use Rattle.std.proofs.lemmas.List.{length-map, take_more, length-take-le}
 use Rattle.std.proofs.lemmas.List.FromFn.{length-enumerate_from, length-range_with_len}
 use Rattle.sx_spec_strings.specs.Bits.{Bits, key_bits}
 use Rattle.sx_spec_kinds.specs.Lcp.{block_prefix, block_prefixes, prefix_lens}

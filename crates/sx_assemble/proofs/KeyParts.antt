@@ -1,7 +1,6 @@
 -- The part of a static function, its section, and the header of its dump.
-use Rattle.std.proofs.Common.{◌≡◌, ℕ, ◌+◌, ◌*◌, ◌^◌, ◌<◌, ◌≤◌, true, false, List, [], ◌∷◌, ◌++◌, length, map, Some, refl, sym, ap, subst, ◌∙◌, arith}
-use Rattle.std.specs.Prelude.{◌==◌, zip, if◌then◌else◌, flat_map}
-use Rattle.std.specs.List.{AllByRecursion}
+use Rattle.std.proofs.Common.{◌≡◌, ℕ, ◌≤◌, true, false, List, [], ◌∷◌, ◌++◌, length, map, refl, sym, ap, subst, ◌∙◌, arith}
+use Rattle.std.specs.Prelude.{◌==◌, zip, if◌then◌else◌}
 use Rattle.std.proofs.lemmas.List.{length-map}
 use Rattle.sx_spec_strings.specs.Bits.{Bits, key_bits}
 use Rattle.sx_spec_kinds.specs.declared.Kind.{Kind}
@@ -23,7 +22,7 @@ use Rattle.sx_static.specs.Answer.{IsDone, entries_of, function_of}
 use Rattle.sx_assemble.specs.declared.layout.SectionBuf.TheVariants.{Function}
 use Rattle.sx_assemble.specs.declared.parts.Stop.{Stop}
 use Rattle.sx_assemble.specs.Assembling.{key_signature, tries}
-use Rattle.sx_assemble.specs.Sectioning.{AreSectionsOf, StopsPart, StopsParts, header_for, held_words}
+use Rattle.sx_assemble.specs.Sectioning.{AreSectionsOf, StopsPart, StopsParts, header_for}
 use Rattle.sx_assemble.proofs.Layouts.{few_words}
 use Rattle.sx_assemble.proofs.PartLists.{cells_counted, function_few, stops_at, whole}
 

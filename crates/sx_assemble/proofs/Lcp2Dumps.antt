@@ -1,6 +1,6 @@
 -- Dumps of distributors whose lengths have two-step codes: their parts and their sections.
-use Rattle.std.proofs.Common.{◌≡◌, ℕ, ◌+◌, ◌-◌, ◌*◌, ◌^◌, ◌<◌, ◌≤◌, List, [], ◌∷◌, Result, MatchResult, length, map, Some, refl, sym, ap, subst, ◌∙◌, arith}
-use Rattle.std.specs.List.{AllByRecursion, AllZip, slice_index}
+use Rattle.std.proofs.Common.{◌≡◌, ℕ, ◌+◌, ◌^◌, ◌<◌, ◌≤◌, List, [], ◌∷◌, Result, MatchResult, length, map, refl, sym, ap, subst, ◌∙◌, arith}
+use Rattle.std.specs.List.{slice_index}
 use Rattle.std.proofs.lemmas.List.{length-map}
 use Rattle.std.proofs.Math.Pow.{pow_pos}
 use Rattle.sx_spec_strings.specs.Bits.{Bits, key_bits}

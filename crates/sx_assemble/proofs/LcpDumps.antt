@@ -1,21 +1,19 @@
 -- Dumps of distributors by longest common prefixes: their parts, their sections and their headers.
-use Rattle.std.proofs.Common.{◌≡◌, ℕ, ◌+◌, ◌*◌, ◌^◌, ◌<◌, ◌≤◌, true, false, List, [], ◌∷◌, length, map, Some, refl, sym, ap, subst, ◌∙◌, arith}
-use Rattle.std.specs.List.{AllByRecursion, AllZip}
+use Rattle.std.proofs.Common.{◌≡◌, ℕ, ◌^◌, ◌<◌, ◌≤◌, true, false, List, [], ◌∷◌, length, map, refl, sym, ap, subst, ◌∙◌, arith}
 use Rattle.std.proofs.lemmas.List.{length-map}
 use Rattle.std.proofs.Math.Pow.{pow_pos}
 use Rattle.sx_spec_strings.specs.Bits.{Bits, key_bits}
 use Rattle.sx_spec_kinds.specs.declared.Kind.{Kind}
 use Rattle.sx_spec_kinds.specs.declared.Kind.TheVariants.{Lcp}
 use Rattle.sx_spec_kinds.specs.Blocks.{block_size}
-use Rattle.sx_spec_kinds.specs.Pairs.{Pairs, lengths_pairs, prefixes_pairs}
+use Rattle.sx_spec_kinds.specs.Pairs.{lengths_pairs, prefixes_pairs}
 use Rattle.sx_spec.specs.declared.Plan.{Plan}
-use Rattle.sx_spec.specs.declared.Signature.{Signature}
 use Rattle.sx_spec.specs.Command.{Text}
 use Rattle.sx_spec.specs.Kinds.{uses_method, uses_buckets}
 use Rattle.sx_spec.specs.Laws.{IsHeader}
 use Rattle.sx_spec.specs.Parts.{kind_parts, least_part, parts_of}
 use Rattle.sx_spec.specs.Signature.{signature}
-use Rattle.sx_spec.specs.StaticFunction.{Entry, Part, part_entries}
+use Rattle.sx_spec.specs.StaticFunction.{Part, part_entries}
 use Rattle.sx_spec.proofs.Members.{few_lengths, few_prefixes}
 use Rattle.sx_bits.specs.KeyLists.{IsKeyList, Keys}
 use Rattle.sx_static.specs.declared.FuncBuf.{FuncBuf}
@@ -23,7 +21,7 @@ use Rattle.sx_static.specs.Answer.{function_of}
 use Rattle.sx_assemble.specs.declared.layout.SectionBuf.TheVariants.{Function}
 use Rattle.sx_assemble.specs.declared.parts.Stop.{Stop}
 use Rattle.sx_assemble.specs.Ranking.{IsBlockPlan}
-use Rattle.sx_assemble.specs.Sectioning.{AreSectionsOf, IsPartDone, StopsPart, StopsParts, header_for, held_words}
+use Rattle.sx_assemble.specs.Sectioning.{AreSectionsOf, IsPartDone, StopsPart, StopsParts, header_for}
 use Rattle.sx_assemble.proofs.BuiltDumps.{AreSources, few_lines}
 use Rattle.sx_assemble.proofs.KeyParts.{unsigned_sections}
 use Rattle.sx_assemble.proofs.Layouts.{few_words}

@@ -1,5 +1,5 @@
 -- Values of 64 bits have a width of 64 at most.
-use Rattle.std.proofs.Common.{◌≡◌, ℕ, zero, suc, ◌^◌, ◌<◌, ◌≤◌, List, [], ◌∷◌, get_or, sym, subst, inl, inr}
+use Rattle.std.proofs.Common.{ℕ, suc, ◌^◌, ◌<◌, ◌≤◌, List, [], ◌∷◌, get_or, sym, subst, inl, inr}
 use Rattle.sx_spec_strings.specs.Ordered.{IsIn}
 use Rattle.sx_spec.specs.Parts.{least_width}
 use Rattle.sx_spec.proofs.Bounds.{least_width_le}

@@ -8,7 +8,7 @@ use Rattle.std.proofs.Math.Pow.{pow_mono}
 use Rattle.sx_spec.specs.declared.Method.{Method}
 use Rattle.sx_spec.specs.declared.Plan.{Plan}
 use Rattle.sx_spec.specs.Built.{CellsFit}
-use Rattle.sx_spec.specs.Chunks.{chunk_bits, chunk_count}
+use Rattle.sx_spec.specs.Chunks.{chunk_count}
 use Rattle.sx_spec.specs.Command.{Text}
 use Rattle.sx_spec.specs.Fields.{packed, words_for}
 use Rattle.sx_spec.specs.Layout.{table_words, u32_max}

@@ -1,11 +1,11 @@
-use Rattle.std.proofs.Common.{◌≤◌, ℕ, refl, arith}
+use Rattle.std.proofs.Common.{refl, arith}
 use Rattle.sx_spec.specs.Parts.{least_width}
 use Rattle.sx_assemble.proofs.BuiltDumps.{AreSources, all_assembled, few_lines}
 use Rattle.sx_assemble.proofs.KeyParts.{func_header}
 use Rattle.sx_assemble.proofs.NarrowValues.{least_narrow}
 use Rattle.sx_assemble.proofs.func.assemble_func.Goals as goal
 
-pub returns : goal.returns-clause-assembled
+pub returns : goal.returns
 returns c =
     let lines = c.args.keys.now.lines in
     let values = c.args.values.now in

@@ -8,7 +8,7 @@ use Rattle.sx_spec_kinds.specs.Pairs.{lengths_pairs}
 use Rattle.sx_spec.specs.declared.Signature.{Signature}
 use Rattle.sx_spec.specs.Parts.{least_width, parts_of}
 use Rattle.sx_assemble.specs.Assembling.{key_signature}
-use Rattle.sx_assemble.specs.Ranking.{ArePairs, length_numbers}
+use Rattle.sx_assemble.specs.Ranking.{length_numbers}
 use Rattle.sx_assemble.specs.Sectioning.{AreSectionsOf}
 use Rattle.sx_assemble.proofs.BuiltDumps.{few_lines}
 use Rattle.sx_assemble.proofs.KeyPairs.{least_of, lengths_are, lengths_count}

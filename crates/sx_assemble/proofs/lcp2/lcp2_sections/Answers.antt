@@ -1,4 +1,4 @@
-use Rattle.std.proofs.Common.{◌≡◌, ◌∙◌, ◌+◌, ◌%◌, ◌^◌, ◌<◌, ◌≤◌, ℕ, List, [], All, Ok, Err, length, map, get_or, ap, subst, sym, arith}
+use Rattle.std.proofs.Common.{◌≡◌, ◌∙◌, ◌%◌, ◌^◌, ◌<◌, ◌≤◌, ℕ, List, [], All, Ok, Err, length, map, ap, subst, sym, arith}
 use Rattle.std.proofs.lemmas.List.{length-map}
 use Rattle.std.proofs.lemmas.List.FromFn.{length-map-range_with_len}
 use Rattle.std.proofs.lemmas.Result.{err_from_is_err_and}
@@ -18,8 +18,8 @@ use Rattle.sx_assemble.proofs.Lcp2Dumps.{bits_narrow, codes_of_keys, codes_part_
 use Rattle.sx_assemble.proofs.PartLists.{stops_out}
 use Rattle.sx_assemble.proofs.lcp2.lcp2_sections.Goals as goal
 
-pub two_step-requires-clause-few : goal.two_step-requires-clause-few
-two_step-requires-clause-few c =
+pub two_step-requires : goal.two_step-requires
+two_step-requires c =
     let list = c.args.keys.now in
     let lines = list.lines in
     let plan = c.args.plan.now in

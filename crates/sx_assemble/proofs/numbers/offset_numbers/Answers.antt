@@ -1,4 +1,4 @@
-use Rattle.std.proofs.Common.{◌≡◌, ◌+◌, ◌%◌, ◌^◌, ◌∙◌, ◌++◌, ◌∷◌, [], ℕ, sym, arith}
+use Rattle.std.proofs.Common.{◌%◌, ◌^◌, ◌∙◌, ◌++◌, ◌∷◌, [], ℕ, sym, arith}
 use Rattle.std.proofs.lemmas.List.FromFn.{map-range_with_len_more}
 use Rattle.std.proofs.lemmas.Nat.{one_shl}
 use Rattle.sx_assemble.proofs.numbers.offset_numbers.Goals as goal
