@@ -10,4 +10,3 @@ pub mod Lcp2Dumps
 pub mod LcpDumps
 pub mod NarrowValues
 pub mod Signing
-pub mod OfferedPlans

@@ -76,6 +76,8 @@ pub fn run<F: Shelf, S: Source, O: Sink, E: Sink, L: Ledger>(
 #[cfg(test)]
 mod failing_tests;
 #[cfg(test)]
+mod ranks_tests;
+#[cfg(test)]
 mod tests;
 #[cfg(test)]
 mod waiting_tests;

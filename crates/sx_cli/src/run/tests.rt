@@ -64,7 +64,7 @@ fn source_of(alloc: Global, bytes: &[u8]) -> Result<MemSource, AllocError> {
 }
 
 /// A shelf with room for one small dump.
-fn shelf_with_room(alloc: Global) -> Result<MemShelf, AllocError>
+pub(super) fn shelf_with_room(alloc: Global) -> Result<MemShelf, AllocError>
     ensures { IfOk result (λ s. use_of s.used ≡ idle) }
 {
     let mut files = MemShelf::new(alloc, Vec::new(alloc));
@@ -73,7 +73,7 @@ fn shelf_with_room(alloc: Global) -> Result<MemShelf, AllocError>
 }
 
 /// Runs the words and compares what they come to.
-fn comes_to(
+pub(super) fn comes_to(
     rt: &impl Abort,
     alloc: Global,
     line: &str,
@@ -98,7 +98,7 @@ fn comes_to(
 }
 
 /// Runs a build over these keys, which is refused with this text.
-fn refuses(
+pub(super) fn refuses(
     rt: &impl Abort,
     alloc: Global,
     line: &str,
@@ -164,7 +164,7 @@ fn rules_of_usage_are_told(rt: HostRuntime) -> Result<(), Fail> {
         ("build lcp D --seeds 1 --seeds 2", "sux: usage: bad words\n"),
         ("build func D --seeds", "sux: usage: bad words\n"),
         ("build tree D", "sux: usage: unknown kind\n"),
-        ("build lcp D", "sux: usage: unknown kind\n"),
+        ("build hollow D", "sux: usage: unknown kind\n"),
         (
             "build func D --sig-bits=193",
             "sux: usage: bad value for --sig-bits\n",

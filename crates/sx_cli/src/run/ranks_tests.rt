@@ -1,0 +1,108 @@
+//! Whole runs of the kinds that give each key its rank.
+
+use super::tests::{comes_to, refuses, shelf_with_room};
+use super::*;
+use std::process::Abort;
+use std::test::Fail;
+
+/// Builds a dump of these keys, and asks it these lines.
+fn answers(
+    rt: &impl Abort,
+    alloc: Global,
+    line: &str,
+    keys: &[u8],
+    told: &[u8],
+    lines: &[u8],
+    ranks: &[u8],
+) -> Result<(), Fail> {
+    let mut files = shelf_with_room(alloc)?;
+    let status = Status::Done;
+    comes_to(rt, alloc, line, &mut files, keys, status, told, b"")?;
+    comes_to(rt, alloc, "query D", &mut files, lines, status, ranks, b"")
+}
+
+#[test]
+fn few_keys_have_their_ranks(rt: HostRuntime) -> Result<(), Fail> {
+    let alloc = rt.alloc();
+    let told = b"keys 0 seed 0 words 18\n";
+    answers(&rt, alloc, "build lcp D", b"", told, b"x\n\n", b"-1\n-1\n")?;
+    let told = b"keys 0 seed 0 words 28\n";
+    answers(&rt, alloc, "build lcp2 D", b"", told, b"x\n\n", b"-1\n-1\n")?;
+    let told = b"keys 1 seed 0 words 19\n";
+    answers(&rt, alloc, "build lcp D", b"\n", told, b"\n", b"0\n")?;
+    let told = b"keys 2 seed 0 words 31\n";
+    answers(
+        &rt,
+        alloc,
+        "build lcp2 D",
+        b"a\r\nb\r\n",
+        told,
+        b"b\r\na\r\n",
+        b"1\n0\n",
+    )
+}
+
+#[test]
+fn blocks_have_their_ranks(rt: HostRuntime) -> Result<(), Fail> {
+    let alloc = rt.alloc();
+    let keys = "apple\nbanana\ncherry\nfig\nzebra\né\n".as_bytes();
+    let lines = "é\napple\nfig\n".as_bytes();
+    let told = b"keys 6 seed 0 words 19\n";
+    answers(&rt, alloc, "build lcp D", keys, told, lines, b"5\n0\n3\n")?;
+    let told = b"keys 4 seed 0 words 32\n";
+    let line = "build lcp2 D --log-bucket 1";
+    answers(
+        &rt,
+        alloc,
+        line,
+        b"a\nb\nc\nd\n",
+        told,
+        b"d\nb\na\nc\n",
+        b"3\n1\n0\n2\n",
+    )
+}
+
+#[test]
+fn parts_that_fail_are_named(rt: HostRuntime) -> Result<(), Fail> {
+    let status = Status::SeedsFailed;
+    let line = "build lcp D --seeds 7 --sig-bits 0";
+    let text =
+        b"sux: seed 7: part lengths: strings 0 and 1 have one signature\nsux: no handed seed works\n";
+    refuses(&rt, rt.alloc(), line, b"a\nb\n", status, text)?;
+    let line = "build lcp2 D --seeds 7 --sig-bits 0";
+    let text =
+        b"sux: seed 7: part offsets: strings 0 and 1 have one signature\nsux: no handed seed works\n";
+    refuses(&rt, rt.alloc(), line, b"a\nb\n", status, text)
+}
+
+#[test]
+fn options_go_with_their_kinds(rt: HostRuntime) -> Result<(), Fail> {
+    let status = Status::Usage;
+    let text = b"sux: usage: bad value for --log-bucket\n";
+    refuses(
+        &rt,
+        rt.alloc(),
+        "build lcp D --log-bucket 13",
+        b"",
+        status,
+        text,
+    )?;
+    let text = b"sux: usage: --log-bucket does not go with func\n";
+    refuses(
+        &rt,
+        rt.alloc(),
+        "build func D --log-bucket 3",
+        b"",
+        status,
+        text,
+    )?;
+    let text = b"sux: usage: --values does not go with lcp2\n";
+    refuses(
+        &rt,
+        rt.alloc(),
+        "build lcp2 D --values V",
+        b"",
+        status,
+        text,
+    )
+}
