@@ -23,7 +23,14 @@ returns-in-Build-clause-promise g c =
 pub build-requires-clause-plan : goal.build-requires-clause-plan
 build-requires-clause-plan g c =
     let fits = plan_fits c.args.words.now _ (sym c.in-Ok.ensures ∙ ap task_of c.in-Build.is) in
-    record { kind = fits.kind; unsigned = fits.unsigned; buckets = fits.buckets; handles = fits.handles; bits = fits.bits }
+    record {
+      kind = fits.kind;
+      signed = fits.signed;
+      buckets = fits.buckets;
+      no_buckets = fits.no_buckets;
+      handles = fits.handles;
+      bits = fits.bits;
+    }
 
 pub returns-in-Query-clause-promise : goal.returns-in-Query-clause-promise
 returns-in-Query-clause-promise g c =
