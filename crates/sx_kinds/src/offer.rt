@@ -12,7 +12,7 @@ use crate::options::same_option;
 use sx_spec::{Kind, OptionName};
 
 /// The kinds that are built and opened.
-const KINDS: [Kind; 3] = [Kind::Func, Kind::Lcp, Kind::Lcp2];
+const KINDS: [Kind; 4] = [Kind::Func, Kind::Lcp, Kind::Lcp2, Kind::Hollow];
 
 /// The options of `build`.
 const OPTIONS: [OptionName; 5] = [

@@ -16,13 +16,15 @@ word_examples = record {
   large_blocks = refl;
   no_blocks = refl;
   no_values = refl;
+  no_method = refl;
   plain = refl;
   seeds = refl;
   blocks = refl;
   plain_blocks = refl;
+  plain_hollow = refl;
   query_words = refl;
   dump_words = refl;
 }
 
 pub open_examples : OpenExamples
-open_examples = record { kind = refl; signed = refl }
+open_examples = record { hollow = refl; kind = refl; signed = refl }

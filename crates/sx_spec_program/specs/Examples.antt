@@ -1,9 +1,10 @@
 -- Worked examples of what a program that offers a part of the whole reads and opens.
 use Rattle.std.specs.Prelude.{◌≡◌, ℕ, List, [], ◌∷◌, ◌++◌, None, Some, Ok, Err, codes}
+use Rattle.std.specs.Result.{result_err}
 use Rattle.sx_spec_kinds.specs.declared.Kind.{Kind}
-use Rattle.sx_spec_kinds.specs.declared.Kind.TheVariants.{Func, Lcp, Lcp2}
+use Rattle.sx_spec_kinds.specs.declared.Kind.TheVariants.{Func, Lcp, Lcp2, Hollow}
 use Rattle.sx_spec.specs.declared.Method.TheVariants.{Mwhc, Gov3}
-use Rattle.sx_spec.specs.declared.OptionName.TheVariants.{LogBucket, SigBits, Values}
+use Rattle.sx_spec.specs.declared.OptionName.TheVariants.{Method as MethodName, LogBucket, SigBits, Values}
 use Rattle.sx_spec.specs.declared.Rule.TheVariants.{NoCommand, UnknownCommand, BadWords, UnknownKind, BadValue, DoesNotGo}
 use Rattle.sx_spec.specs.Command.{Text, Task, BuildTask, usage, build, query, show_dump}
 use Rattle.sx_spec.specs.Layout.{words_bytes, magic}
@@ -32,26 +33,33 @@ pub record WordExamples : Type 0 where
   pub twice : reads (codes "build" ∷ codes "lcp" ∷ codes "D" ∷ codes "--seeds" ∷ codes "1" ∷ codes "--seeds" ∷ codes "2" ∷ []) ≡ usage BadWords
   pub option_not_offered : reads (codes "build" ∷ codes "tree" ∷ codes "D" ∷ codes "--signed" ∷ codes "8" ∷ []) ≡ usage BadWords
   pub no_kind : reads (codes "build" ∷ codes "tree" ∷ codes "D" ∷ []) ≡ usage UnknownKind
-  pub kind_not_offered : reads (codes "build" ∷ codes "hollow" ∷ codes "D" ∷ codes "--sig-bits" ∷ codes "193" ∷ []) ≡ usage UnknownKind
+  pub kind_not_offered : reads (codes "build" ∷ codes "hollowdist" ∷ codes "D" ∷ codes "--sig-bits" ∷ codes "193" ∷ []) ≡ usage UnknownKind
   pub bad_value : reads (codes "build" ∷ codes "func" ∷ codes "D" ∷ codes "--sig-bits" ∷ codes "193" ∷ []) ≡ usage (BadValue SigBits)
   pub large_blocks : reads (codes "build" ∷ codes "lcp2" ∷ codes "D" ∷ codes "--log-bucket" ∷ codes "13" ∷ []) ≡ usage (BadValue LogBucket)
   pub no_blocks : reads (codes "build" ∷ codes "func" ∷ codes "D" ∷ codes "--log-bucket" ∷ codes "3" ∷ []) ≡ usage (DoesNotGo LogBucket Func)
   pub no_values : reads (codes "build" ∷ codes "lcp" ∷ codes "D" ∷ codes "--values" ∷ codes "f" ∷ []) ≡ usage (DoesNotGo Values Lcp)
+  pub no_method : reads (codes "build" ∷ codes "hollow" ∷ codes "D" ∷ codes "--method" ∷ codes "mwhc" ∷ []) ≡ usage (DoesNotGo MethodName Hollow)
   pub plain : reads (codes "build" ∷ codes "func" ∷ codes "D" ∷ []) ≡ build (builds Func 0 (0 ∷ 1 ∷ 2 ∷ 3 ∷ []) 192)
   pub seeds : reads (codes "build" ∷ codes "func" ∷ codes "--seeds=7,8" ∷ codes "D" ∷ codes "--sig-bits" ∷ codes "0" ∷ []) ≡ build (builds Func 0 (7 ∷ 8 ∷ []) 0)
   pub blocks : reads (codes "build" ∷ codes "lcp" ∷ codes "D" ∷ codes "--log-bucket" ∷ codes "3" ∷ []) ≡ build (builds Lcp 3 (0 ∷ 1 ∷ 2 ∷ 3 ∷ []) 192)
   pub plain_blocks : reads (codes "build" ∷ codes "lcp2" ∷ codes "D" ∷ []) ≡ build (builds Lcp2 5 (0 ∷ 1 ∷ 2 ∷ 3 ∷ []) 192)
+  pub plain_hollow : reads (codes "build" ∷ codes "hollow" ∷ codes "D" ∷ []) ≡ build (builds Hollow 0 (0 ∷ 1 ∷ 2 ∷ 3 ∷ []) 192)
   pub query_words : reads (codes "query" ∷ codes "D" ∷ []) ≡ query (codes "D")
   pub dump_words : reads (codes "dump" ∷ codes "D" ∷ []) ≡ show_dump (codes "D")
 
--- the words of an empty hollow dump, and of an empty function with a signed width
+-- the words of an empty hollow dump, of the header of a dump of a kind that isn't offered, and of an empty function with a signed
+-- width
 abbrev pub hollow_words : List ℕ
 hollow_words = magic ∷ 16 ∷ 3 ∷ 0 ∷ 0 ∷ 0 ∷ 192 ∷ 0 ∷ 0 ∷ 0 ∷ 1 ∷ 1 ∷ 1 ∷ 1 ∷ 1 ∷ 1 ∷ []
+
+abbrev pub other_words : List ℕ
+other_words = magic ∷ 10 ∷ 4 ∷ 0 ∷ 0 ∷ 0 ∷ 192 ∷ 0 ∷ 0 ∷ 0 ∷ []
 
 abbrev pub signed_words : List ℕ
 signed_words = magic ∷ 14 ∷ 0 ∷ 0 ∷ 0 ∷ 0 ∷ 192 ∷ 0 ∷ 8 ∷ 0 ∷ 0 ∷ 0 ∷ 0 ∷ 0 ∷ []
 
--- which dumps aren't opened
+-- which dumps are opened, and which aren't
 pub record OpenExamples : Type 0 where
-  pub kind : opened_by sux_offer (words_bytes hollow_words) ≡ Err 4
+  pub hollow : result_err (opened_by sux_offer (words_bytes hollow_words)) ≡ None
+  pub kind : opened_by sux_offer (words_bytes other_words) ≡ Err 4
   pub signed : opened_by sux_offer (words_bytes signed_words) ≡ Err 9

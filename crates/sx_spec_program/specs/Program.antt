@@ -1,22 +1,24 @@
 -- What this program offers, and the program that offers so much.
 use Rattle.std.specs.Prelude.{◌≡◌, ◌≤◌, ℕ, true, false, List, [], ◌∷◌, Option, option_map, codes}
 use Rattle.std.specs.Result.{result_err}
-use Rattle.sx_spec_kinds.specs.declared.Kind.TheVariants.{Func, Lcp, Lcp2}
+use Rattle.sx_spec_kinds.specs.declared.Kind.TheVariants.{Func, Lcp, Lcp2, Hollow}
+use Rattle.sx_spec.specs.declared.Method.TheVariants.{Mwhc}
 use Rattle.sx_spec.specs.declared.OptionName.TheVariants.{Seeds, Method as MethodName, LogBucket, SigBits, Values}
 use Rattle.sx_spec.specs.declared.Plan.{Plan}
 use Rattle.sx_spec.specs.Command.{Text}
 use Rattle.sx_spec.specs.Keys.{standard_limits}
-use Rattle.sx_spec.specs.Kinds.{uses_buckets}
+use Rattle.sx_spec.specs.Kinds.{uses_buckets, uses_method}
 use Rattle.sx_spec.specs.Messages.{key_text, seeds_text, check_text, fault_text}
 use Rattle.sx_spec.specs.Outcomes.{Profile}
 use Rattle.sx_spec.specs.Parts.{least_width}
 use Rattle.sx_spec_program.specs.Offer.{Offer, offered, offers_kind, opened_by}
 
--- what sux offers: static functions with values, and the kinds lcp and lcp2 in blocks; built by either method, and without a signed width
+-- what sux offers: static functions with values, the kinds lcp and lcp2 in blocks, and hollow tries; functions are built by either
+-- method, and nothing has a signed width
 abbrev pub sux_offer : Offer
 sux_offer = record {
   commands = codes "build" ∷ codes "query" ∷ codes "open" ∷ codes "dump" ∷ [];
-  kinds = Func ∷ Lcp ∷ Lcp2 ∷ [];
+  kinds = Func ∷ Lcp ∷ Lcp2 ∷ Hollow ∷ [];
   options = Seeds ∷ MethodName ∷ LogBucket ∷ SigBits ∷ Values ∷ [];
   signed = 0;
 }
@@ -26,6 +28,7 @@ sux_offer = record {
 pub record IsOfferedPlan (plan : Plan) : Type 0 where
   pub kind : offers_kind sux_offer plan.kind ≡ true
   pub signed : plan.signed ≤ sux_offer.signed
+  pub no_method : uses_method plan.kind ≡ false → plan.method ≡ Mwhc
   pub buckets : plan.log_bucket ≤ 12
   pub no_buckets : uses_buckets plan.kind ≡ false → plan.log_bucket ≡ 0
   pub handles : plan.handle_bits ≡ 0

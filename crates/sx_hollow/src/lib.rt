@@ -1,0 +1,9 @@
+//! Hollow tries: of each inner node of a trie of keys only how many leaves its left child has and how
+//! many bits it skips, and the walk of a string by these numbers.
+#![tactic(auto)]
+
+mod lists;
+mod view;
+
+pub use lists::{HollowLists, hollow_lists};
+pub use view::HollowView;
