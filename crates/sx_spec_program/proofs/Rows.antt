@@ -1,5 +1,7 @@
 -- The worked examples hold, by computing.
 use Rattle.std.proofs.Common.{refl}
+use Rattle.sx_spec_strings.specs.First as first
+use Rattle.sx_spec_strings.specs.Numbers as numbers
 use Rattle.sx_spec_program.specs.Examples.{WordExamples, OpenExamples}
 
 pub word_examples : WordExamples
@@ -27,4 +29,5 @@ word_examples = record {
 }
 
 pub open_examples : OpenExamples
+unfolding numbers.binary_digits first.least_from numbers.lowest_digits
 open_examples = record { hollow = refl; kind = refl; signed = refl }

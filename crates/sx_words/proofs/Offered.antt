@@ -1,25 +1,25 @@
 -- A plan that words ask for is one that the program offers.
-use Rattle.std.proofs.Common.{◌≡◌, ℕ, ◌≤◌, ◌^◌, Bool, true, false, ◌&&◌, ◌||◌, List, [], ◌∷◌, length, Option, Some, None, ◌∙◌, refl, sym, ap, subst, arith, lit≤}
-use Rattle.std.specs.Prelude.{not, find, drop, slice_get, codes, unwrap_or, option_map, option_and_then, if◌then◌else◌}
+use Rattle.std.proofs.Common.{◌≡◌, ℕ, ◌^◌, Bool, true, false, ◌&&◌, ◌||◌, List, [], ◌∷◌, Option, Some, None, ◌∙◌, refl, sym, ap, subst, arith, lit≤}
+use Rattle.std.specs.Prelude.{not, find, drop, is_some, slice_get, codes, unwrap_or, option_map, option_and_then, if◌then◌else◌}
 use Rattle.std.specs.List.{list_all, list_any}
 use Rattle.std.specs.Str.{bytes_eq}
 use Rattle.std.proofs.lemmas.Bool.{and_parts}
 use Rattle.std.proofs.lemmas.Slice.Eq.{bytes_eq-Decides}
 use Rattle.sx_spec_kinds.specs.declared.Kind.{Kind}
 use Rattle.sx_spec_kinds.specs.declared.Kind.TheVariants.{Func, Lcp, Lcp2, Hollow, HollowDist, Zfast}
+use Rattle.sx_spec.specs.declared.Method.TheVariants.{Mwhc}
 use Rattle.sx_spec.specs.declared.OptionName.{OptionName}
 use Rattle.sx_spec.specs.declared.OptionName.TheVariants.{Seeds, Method as MethodName, LogBucket, SigBits, HandleBits, Signed, Values}
-use Rattle.sx_spec.specs.declared.Plan.{Plan}
 use Rattle.sx_spec.specs.declared.Rule.{Rule}
 use Rattle.sx_spec.specs.declared.Rule.TheVariants.{UnknownCommand, UnknownKind, BadWords}
-use Rattle.sx_spec.specs.Kinds.{kind_word, uses_buckets, uses_handles}
+use Rattle.sx_spec.specs.Kinds.{kind_word, uses_buckets, uses_handles, uses_method}
 use Rattle.sx_spec.specs.Values.{number_below}
 use Rattle.sx_spec.specs.Layout.{kinds}
-use Rattle.sx_spec.specs.Command.{Text, Setting, Split, BuildTask, Task, usage, build, query, open_dump, show_dump, command, verbs, verb_task, for_split, for_kind, unless, trial_task, number_within, well_formed, split_words, split_plain, positional, setting, same_option, kind_named, options_rule, option_names, build_task, plan_of, number_of, goes_with}
+use Rattle.sx_spec.specs.Command.{Text, Setting, Split, BuildTask, Task, usage, build, query, open_dump, show_dump, command, verbs, verb_task, for_split, for_kind, unless, trial_task, number_within, well_formed, split_words, split_plain, positional, setting, same_option, kind_named, method_named, options_rule, option_names, build_task, plan_of, number_of}
 use Rattle.sx_spec_program.specs.Offer.{offered, offered_build, offers_kind, offers_options, offers_kind_word}
 use Rattle.sx_spec_program.specs.Program.{sux_offer, IsOfferedPlan}
-use Rattle.sx_words.specs.Rules.{has_bad_value}
-use Rattle.sx_words.proofs.Plans.{no_rule, none_found, number_fits}
+use Rattle.sx_words.specs.Rules.{has_bad_value, is_unfit}
+use Rattle.sx_words.proofs.Plans.{no_first, no_rule, none_found, number_fits}
 use Rattle.sx_words.proofs.Verdicts.{rule_is}
 
 -- ---- the pieces
@@ -27,17 +27,18 @@ use Rattle.sx_words.proofs.Verdicts.{rule_is}
 -- the kind of a word that is offered is offered
 kind_fits : (word : Text) (kind : Kind) → offers_kind_word sux_offer word ≡ true → kind_named word ≡ Some kind → offers_kind sux_offer kind ≡ true
 kind_fits word kind offers named =
-    by_tests (bytes_eq (kind_word Func) word) (bytes_eq (kind_word Lcp) word) (bytes_eq (kind_word Lcp2) word) (λ k. bytes_eq (kind_word k) word) offers named
+    by_tests (bytes_eq (kind_word Func) word) (bytes_eq (kind_word Lcp) word) (bytes_eq (kind_word Lcp2) word) (bytes_eq (kind_word Hollow) word) (λ k. bytes_eq (kind_word k) word) offers named
   where
     same : {k : Kind} → kind ≡ k → offers_kind sux_offer kind ≡ offers_kind sux_offer k
     same is = ap (offers_kind sux_offer) is
 
-    by_tests : (a b d : Bool) (p : Kind → Bool) → (a || (b || (d || false))) ≡ true
-        → (if a then Some Func else if b then Some Lcp else if d then Some Lcp2 else find p (drop 3 kinds)) ≡ Some kind → offers_kind sux_offer kind ≡ true
-    by_tests true b d p o n = let is : Func ≡ kind = cc in same (sym is)
-    by_tests false true d p o n = let is : Lcp ≡ kind = cc in same (sym is)
-    by_tests false false true p o n = let is : Lcp2 ≡ kind = cc in same (sym is)
-    by_tests false false false p o n = absurd cc
+    by_tests : (a b d h : Bool) (p : Kind → Bool) → (a || (b || (d || (h || false)))) ≡ true
+        → (if a then Some Func else if b then Some Lcp else if d then Some Lcp2 else if h then Some Hollow else find p (drop 4 kinds)) ≡ Some kind → offers_kind sux_offer kind ≡ true
+    by_tests true b d h p o n = let is : Func ≡ kind = cc in same (sym is)
+    by_tests false true d h p o n = let is : Lcp ≡ kind = cc in same (sym is)
+    by_tests false false true h p o n = let is : Lcp2 ≡ kind = cc in same (sym is)
+    by_tests false false false true p o n = let is : Hollow ≡ kind = cc in same (sym is)
+    by_tests false false false false p o n = absurd cc
 
 -- no kind that is offered keeps handles
 no_handles : (kind : Kind) → offers_kind sux_offer kind ≡ true → uses_handles kind ≡ false
@@ -47,6 +48,12 @@ no_handles Lcp2 offers = refl
 no_handles Hollow offers = refl
 no_handles HollowDist offers = refl
 no_handles Zfast offers = absurd cc
+
+-- a kind that uses no method has none, since none may be given
+no_method : (goes : Bool) (o : Option Text) → (is_some o && not goes) ≡ false → goes ≡ false → unwrap_or (option_and_then method_named o) Mwhc ≡ Mwhc
+no_method false None unfit none = refl
+no_method false (Some word) unfit none = absurd cc
+no_method true o unfit none = absurd cc
 
 -- a signed width isn't offered
 no_signed : (settings : List Setting) → list_all (λ t. list_any (same_option t.name) sux_offer.options) settings ≡ true → find (λ t. same_option Signed t.name) settings ≡ None
@@ -131,11 +138,13 @@ build_word word rest b e = by_tests (bytes_eq (codes "build") word) refl (bytes_
 options_fit : (s : Split) (kind : Kind) → offers_kind sux_offer kind ≡ true → offers_options sux_offer s ≡ true → options_rule s kind ≡ None → IsOfferedPlan (plan_of s kind)
 options_fit s kind kind_offered offers free =
     let good = none_found (has_bad_value s) option_names (no_rule (find (has_bad_value s) option_names) _ _ (sym (rule_is s kind) ∙ free)) in
+    let fit = none_found (is_unfit s kind) option_names (no_rule (find (is_unfit s kind) option_names) _ _ (no_first (find (has_bad_value s) option_names) _ _ (sym (rule_is s kind) ∙ free))) in
     let unsigned : number_of s kind Signed 0 ≡ 0 =
     ap (λ (o : Option Setting). unwrap_or (option_and_then (number_below (2 ^ 64)) (option_map (λ (t : Setting). t.value) o)) 0) (no_signed s.settings offers) in
     record {
       kind = kind_offered;
       signed = omega (arith, unsigned);
+      no_method = no_method (uses_method kind) (setting s MethodName) fit.1.0;
       buckets = number_fits (uses_buckets kind) (setting s LogBucket) 0 12 5 12 (lit≤ tt) (lit≤ tt) good.1.1.0;
       no_buckets = λ none. ap (λ (goes : Bool). if goes then unwrap_or (option_and_then (number_below (2 ^ 64)) (setting s LogBucket)) 5 else 0) none;
       handles = ap (λ (goes : Bool). if goes then unwrap_or (option_and_then (number_below (2 ^ 64)) (setting s HandleBits)) 32 else 0) (no_handles kind kind_offered);

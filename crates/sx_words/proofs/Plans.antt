@@ -16,6 +16,10 @@ pub no_rule : {X Y : Type 0} (o : Option X) (f : X → Y) (rest : Option Y) → 
 no_rule None f rest e = refl
 no_rule (Some x) f rest e = absurd cc
 
+pub no_first : {X Y : Type 0} (o : Option X) (f : X → Y) (rest : Option Y) → some_or o f rest ≡ None → rest ≡ None
+no_first None f rest e = e
+no_first (Some x) f rest e = absurd cc
+
 pub none_found : {X : Type 0} (p : X → Bool) (xs : List X) → find p xs ≡ None → AllByRecursion (λ x. p x ≡ false) xs
 none_found p [] e = tt
 none_found p (x ∷ xs) e =

@@ -49,8 +49,8 @@ fn refused_words(rt: HostRuntime) -> Result<(), Fail> {
         ("build lcp D --handle-bits 5", Some(Rule::BadWords)),
         ("build func D --frob 5", Some(Rule::BadWords)),
         ("build tree D", Some(Rule::UnknownKind)),
-        ("build hollow D", Some(Rule::UnknownKind)),
-        ("build hollow D --sig-bits 193", Some(Rule::UnknownKind)),
+        ("build hollowdist D", Some(Rule::UnknownKind)),
+        ("build hollowdist D --sig-bits 193", Some(Rule::UnknownKind)),
         (
             "build lcp D --log-bucket 13",
             Some(Rule::BadValue(OptionName::LogBucket)),
@@ -64,6 +64,13 @@ fn refused_words(rt: HostRuntime) -> Result<(), Fail> {
             Some(Rule::DoesNotGo {
                 name: OptionName::LogBucket,
                 kind: Kind::Func,
+            }),
+        ),
+        (
+            "build hollow D --method mwhc",
+            Some(Rule::DoesNotGo {
+                name: OptionName::Method,
+                kind: Kind::Hollow,
             }),
         ),
         (
@@ -201,6 +208,7 @@ fn builds_in_blocks(rt: HostRuntime) -> Result<(), Fail> {
         ("build lcp D --log-bucket 3", Kind::Lcp, 3),
         ("build lcp2 D --log-bucket=12", Kind::Lcp2, 12),
         ("build lcp2 D", Kind::Lcp2, 5),
+        ("build hollow D", Kind::Hollow, 0),
     ];
     for (line, kind, log_bucket) in cases {
         match task(alloc, line)? {

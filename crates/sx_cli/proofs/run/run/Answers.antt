@@ -27,6 +27,7 @@ build-requires-clause-plan g c =
       kind = fits.kind;
       signed = fits.signed;
       buckets = fits.buckets;
+      no_method = fits.no_method;
       no_buckets = fits.no_buckets;
       handles = fits.handles;
       bits = fits.bits;
