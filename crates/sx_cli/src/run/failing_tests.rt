@@ -203,6 +203,21 @@ fn each_call_of_build_and_its_readers_fails(rt: HostRuntime) -> Result<(), Fail>
 }
 
 #[test]
+fn each_call_of_a_hollow_trie_fails(rt: HostRuntime) -> Result<(), Fail> {
+    let build = Job::plain("build hollow D", b"a\nb\nc\n", b"");
+    let dump = each_call_fails(&rt, rt.alloc(), &build, [3, 3, 3])?;
+    for (line, input, calls) in [
+        ("query D", b"a\nb\nc\n".as_slice(), [4, 3, 3]),
+        ("open D", b"", [4, 0, 3]),
+        ("dump D", b"", [4, 0, 31]),
+    ] {
+        let job = Job::plain(line, input, &dump);
+        each_call_fails(&rt, rt.alloc(), &job, calls)?;
+    }
+    Ok(())
+}
+
+#[test]
 fn each_call_of_build_with_values_fails(rt: HostRuntime) -> Result<(), Fail> {
     let job = Job {
         line: "build func D --values V",

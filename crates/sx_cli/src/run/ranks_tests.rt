@@ -63,6 +63,21 @@ fn blocks_have_their_ranks(rt: HostRuntime) -> Result<(), Fail> {
 }
 
 #[test]
+fn hollow_tries_have_their_ranks(rt: HostRuntime) -> Result<(), Fail> {
+    let alloc = rt.alloc();
+    let line = "build hollow D";
+    let told = b"keys 0 seed 0 words 16\n";
+    answers(&rt, alloc, line, b"", told, b"x\n\n", b"-1\n-1\n")?;
+    let told = b"keys 3 seed 0 words 17\n";
+    let lines = b"a\nb\nc\na\0\nz\n\n";
+    let ranks = b"0\n1\n2\n0\n1\n0\n";
+    answers(&rt, alloc, line, b"a\nb\nc\n", told, lines, ranks)?;
+    let line = "build hollow D --seeds 9,7 --sig-bits 0";
+    let told = b"keys 1 seed 9 words 16\n";
+    answers(&rt, alloc, line, b"a\n", told, b"a\n\nb\n", b"0\n0\n0\n")
+}
+
+#[test]
 fn parts_that_fail_are_named(rt: HostRuntime) -> Result<(), Fail> {
     let status = Status::SeedsFailed;
     let line = "build lcp D --seeds 7 --sig-bits 0";
@@ -92,6 +107,15 @@ fn options_go_with_their_kinds(rt: HostRuntime) -> Result<(), Fail> {
         &rt,
         rt.alloc(),
         "build func D --log-bucket 3",
+        b"",
+        status,
+        text,
+    )?;
+    let text = b"sux: usage: --method does not go with hollow\n";
+    refuses(
+        &rt,
+        rt.alloc(),
+        "build hollow D --method mwhc",
         b"",
         status,
         text,
