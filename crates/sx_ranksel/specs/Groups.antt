@@ -21,7 +21,8 @@ pub record IsShort (bits x group word : ℕ) : Type 0 where
 pub record IsLong (bits x group listed : ℕ) (places : List ℕ) : Type 0 where
   pub far : place_of bits x (64 * group) / 64 + 30 ≤ place_of bits x (last_in bits x group) / 64
   pub within : listed + (last_in bits x group - 64 * group) < length places
-  pub items : (i : ℕ) → i ≤ last_in bits x group - 64 * group → slice_index places (listed + i) ≡ place_of bits x (64 * group + i)
+  pub items : (i : ℕ) → i ≤ last_in bits x group - 64 * group
+      → slice_index places (listed + i) ≡ place_of bits x (64 * group + i)
 
 -- the top bit of a word says which of the two a group is
 pub record IsGroup (bits x group word : ℕ) (places : List ℕ) : Type 0 where
