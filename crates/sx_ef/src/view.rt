@@ -99,7 +99,21 @@ impl<B: WordBank + Copy> EliasFano<B> {
         ensures counted { steps.old < steps.new }
         ensures cost { steps.new ≤ steps.old + 38 }
     {
-        let high = self.upper.select(i as u64, steps) - i as u64;
+        let place = self.upper.select(i as u64, steps);
+        self.number_of(i, place, steps)
+    }
+
+    /// Number `i`, whose one stands at `place`, in at most two ticks.
+    #[inline]
+    fn number_of<L: Ledger>(&self, i: usize, place: u64, steps: &mut Steps<L>) -> u64
+        requires within { i < length (⟦<EliasFano<B> as Fields>⟧.items self.now) }
+        requires place { place ≡ slice_index (ones_of self.now.upper.bits
+            (number_at self.now.upper.first (B.words_of self.now.upper.bank))) i }
+        ensures value { result ≡ slice_index (⟦<EliasFano<B> as Fields>⟧.items self.now) i }
+        ensures counted { steps.old ≤ steps.new }
+        ensures cost { steps.new ≤ steps.old + 2 }
+    {
+        let high = place - i as u64;
         (high << self.width) + self.low.get(i, steps)
     }
 
@@ -112,7 +126,11 @@ impl<B: WordBank + Copy> EliasFano<B> {
         ensures counted { steps.old < steps.new }
         ensures cost { steps.new ≤ steps.old + 76 }
     {
-        (self.number(i, steps), self.number(i + 1, steps))
+        let (place, next) = self.upper.select_pair(i as u64, steps);
+        (
+            self.number_of(i, place, steps),
+            self.number_of(i + 1, next, steps),
+        )
     }
 }
 

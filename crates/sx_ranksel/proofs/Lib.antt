@@ -1,2 +1,3 @@
+pub mod GroupWords
 pub mod Ranks
 pub mod WordSelect

@@ -1,7 +1,7 @@
 -- How many ones a number has below a bit, and where one number k stands.
-use Rattle.std.proofs.Common.{◌≡◌, ℕ, min, zero, suc, ◌+◌, ◌-◌, ◌*◌, ◌/◌, ◌%◌, ◌^◌, ◌<◌, ◌≤◌, cond, List, [], ◌∷◌, ◌++◌, All, length, get_or, drop, refl, sym, ap, ◌∙◌, arith, lit<, inl, inr, zero-add, add-zero}
+use Rattle.std.proofs.Common.{◌≡◌, ℕ, zero, suc, ◌+◌, ◌-◌, ◌*◌, ◌/◌, ◌%◌, ◌^◌, ◌<◌, ◌≤◌, cond, List, [], ◌∷◌, ◌++◌, All, length, get_or, drop, refl, sym, ap, ◌∙◌, arith, lit<, inl, inr, zero-add, add-zero}
 use Rattle.std.specs.Prelude.{◌==◌, filter}
-use Rattle.std.specs.Int.{bit_at, div_ceil}
+use Rattle.std.specs.Int.{bit_at}
 use Rattle.std.specs.Int.Count.{ones}
 use Rattle.std.specs.List.{range_with_len}
 use Rattle.std.proofs.lemmas.Bool.{cases_eq, cases_lt, eq-eqb, ne_eqb}
@@ -167,19 +167,3 @@ length-directory bits x = length-map-range_with_len (λ block. rank_of (512 * bl
 pub directory_at : (bits x block : ℕ) → block ≤ bits / 512 → get_or (directory_of bits x) block 0 ≡ rank_of (512 * block) x
 directory_at bits x block within =
     get_or-map-range_with_len (λ block. rank_of (512 * block) x) 0 (bits / 512 + 1) block block 0 (omega arith) (zero-add block)
-
--- the words of a block that holds the one number k, or all that are left of them, pass k
-pub block_above : (bits x block k to : ℕ) → block ≤ bits / 512 → to ≡ min (8 * block + 8) (div_ceil bits 64) → (block + 1 < length (directory_of bits x) → k < get_or (directory_of bits x) (block + 1) 0) → k < rank_of bits x → k < rank_of (64 * to) x
-block_above bits x block k to within is above some =
-    elim (cases_lt block (bits / 512)) [
-      | inl lt ↦
-          let size = length-directory bits x in
-          let at = directory_at bits x (block + 1) (omega arith) in
-          let next = above (omega arith) in
-          let e : 512 * (block + 1) ≡ 64 * to = omega arith in
-          let same = ap (λ n. rank_of n x) e in
-          omega arith
-      | inr le ↦
-          let more = rank_mono x bits (64 * to) (omega arith) in
-          omega arith
-    ]

@@ -1,11 +1,10 @@
 -- A word's one number k, found by halves.
-use Rattle.std.proofs.Common.{◌≡◌, ◌≢◌, ℕ, suc, ◌+◌, ◌-◌, ◌*◌, ◌/◌, ◌%◌, ◌^◌, ◌<◌, ◌≤◌, refl, sym, ap, ◌∙◌, arith, lit<, inl, inr}
+use Rattle.std.proofs.Common.{◌≡◌, ◌≢◌, ℕ, ◌+◌, ◌-◌, ◌/◌, ◌%◌, ◌^◌, ◌<◌, ◌≤◌, refl, sym, ap, ◌∙◌, arith, lit<}
 use Rattle.std.specs.Int.{bit_at}
 use Rattle.std.specs.Int.Count.{ones}
 use Rattle.std.proofs.lemmas.Nat.{ones_cat, ones-le, mod_below, pow_pos, field_of, shr-shr, div-add-mod'}
-use Rattle.std.proofs.Math.Nat.{mod-eq_of_lt, div-one, pow-zero, pow-succ', mod-one, mul_comm, mul_assoc, mul-le-mul_left}
-use Rattle.std.proofs.Math.Pow.{mod-mod-pow, pow_mono}
-use Rattle.std.proofs.lemmas.Bool.{cases_lt}
+use Rattle.std.proofs.Math.Nat.{mod-eq_of_lt, div-one, pow-zero, mod-one}
+use Rattle.std.proofs.Math.Pow.{mod-mod-pow}
 use Rattle.sx_ranksel.proofs.Ranks.{ones_cut, no_ones}
 
 -- so many bits of the word from a place on hold the one that is sought, with so many ones below it there
@@ -75,22 +74,3 @@ last_bit word k place left rest h =
     let few = ones-le 1 rest small in
     let some : rest ≢ 0 = λ none. let e : ones rest ≡ 0 = ap ones none ∙ no_ones in omega (arith, h.some_left) in
     (omega arith, omega (arith, h.some_left, h.below))
-
--- ---- the cost of halving
-
--- half of what is left, at a step more
-pub halve_cost : (t d e : ℕ) → 2 ^ t * d ≤ 2 ^ 25 → 2 * e ≤ d → 2 ^ (t + 1) * e ≤ 2 ^ 25
-halve_cost t d e within half =
-    let one : t + 1 ≡ suc t = omega arith in
-    let power : 2 ^ (t + 1) * e ≡ 2 ^ t * (2 * e) = ap (λ n. 2 ^ n * e) one ∙ ap (λ m. m * e) (pow-succ' 2 t ∙ mul_comm 2 (2 ^ t)) ∙ mul_assoc (2 ^ t) 2 e in
-    let less : 2 ^ t * (2 * e) ≤ 2 ^ t * d = mul-le-mul_left (2 ^ t) half in
-    omega arith
-
--- while something is left, few steps were taken
-pub cost_left : (t d : ℕ) → 2 ^ t * d ≤ 2 ^ 25 → 0 < d → t ≤ 25
-cost_left t d within some =
-    let more : 2 ^ t * 1 ≤ 2 ^ t * d = mul-le-mul_left (2 ^ t) some in
-    elim (cases_lt 25 t) [
-      | inl lt ↦ absurd (let big : 2 ^ 26 ≤ 2 ^ t = pow_mono lt in omega arith)
-      | inr le ↦ le
-    ]

@@ -1,5 +1,5 @@
 //! Ones counted word by word.
-ghost use Rattle.std.specs.Prelude.{◌≡◌, ◌+◌, ◌-◌, ◌*◌, ◌/◌, ◌<◌, ◌≤◌, ◌^◌, All, length};
+ghost use Rattle.std.specs.Prelude.{◌≡◌, ◌+◌, ◌-◌, ◌*◌, ◌/◌, ◌<◌, ◌≤◌, ◌^◌, All, length, IfSome};
 ghost use Rattle.std.specs.Int.{bit_at};
 ghost use Rattle.sx_spec.specs.Fields.{words_for};
 ghost use Rattle.sx_ranksel.specs.Directory.{number_at, rank_of};
@@ -63,6 +63,13 @@ pub(crate) fn ones_below<B: WordBank, L: Ledger>(
     ones + u64::from(last.count_ones())
 }
 
+/// The place of a one, and the ones below its word.
+#[derive(Clone, Copy)]
+pub(crate) struct One {
+    pub place: u64,
+    pub below: u64,
+}
+
 /// The one number `k` of all, where it stands in a word number `from` up to before `to`, and `before` ones are below these.
 #[inline]
 pub(crate) fn select_between<B: WordBank, L: Ledger>(
@@ -73,28 +80,63 @@ pub(crate) fn select_between<B: WordBank, L: Ledger>(
     mut before: u64,
     k: u64,
     steps: &mut Steps<L>,
-) -> u64
+) -> One
     requires order { from ≤ to }
     requires few { to < 2 ^ 30 }
-    requires short { to - from ≤ 8 }
     requires before { before ≡ rank_of (64 * from) (number_at first (B.words_of bank.now)) }
     requires low { before ≤ k }
     requires high { k < rank_of (64 * to) (number_at first (B.words_of bank.now)) }
     requires within { first + to ≤ length (B.words_of bank.now) }
     requires small { All (λ w. w < 2 ^ 64) (B.words_of bank.now) }
     requires long { length (B.words_of bank.now) < 2 ^ 64 }
-    ensures one { bit_at (number_at first (B.words_of bank.now)) result ≡ 1 }
-    ensures below { rank_of result (number_at first (B.words_of bank.now)) ≡ k }
+    ensures one { bit_at (number_at first (B.words_of bank.now)) result.place ≡ 1 }
+    ensures below { rank_of result.place (number_at first (B.words_of bank.now)) ≡ k }
+    ensures word { result.below
+        ≡ rank_of (64 * (result.place / 64)) (number_at first (B.words_of bank.now)) }
+    ensures least { 64 * from ≤ result.place }
+    ensures most { result.place < 64 * to }
     ensures counted { steps.old < steps.new }
-    ensures cost { steps.new ≤ steps.old + 8 }
+    ensures cost { steps.new ≤ steps.old + (to - from) }
 {
     for word in from..to {
         let bits = bank.word(first + word, steps);
         let ones = u64::from(bits.count_ones());
         if k - before < ones {
-            return 64 * word as u64 + u64::from(select_in_word(bits, (k - before) as u32));
+            return One {
+                place: 64 * word as u64 + u64::from(select_in_word(bits, (k - before) as u32)),
+                below: before,
+            };
         }
         before += ones;
     }
     unreachable!()
+}
+
+/// The first one in the words number `from` up to before `to`, where there is any.
+#[inline]
+pub(crate) fn next_between<B: WordBank, L: Ledger>(
+    bank: &B,
+    first: usize,
+    from: usize,
+    to: usize,
+    steps: &mut Steps<L>,
+) -> Option<u64>
+    requires order { from ≤ to }
+    requires few { to < 2 ^ 30 }
+    requires within { first + to ≤ length (B.words_of bank.now) }
+    requires small { All (λ w. w < 2 ^ 64) (B.words_of bank.now) }
+    requires long { length (B.words_of bank.now) < 2 ^ 64 }
+    ensures one { IfSome result (λ p. bit_at (number_at first (B.words_of bank.now)) p ≡ 1) }
+    ensures below { IfSome result (λ p. rank_of p (number_at first (B.words_of bank.now))
+        ≡ rank_of (64 * from) (number_at first (B.words_of bank.now))) }
+    ensures counted { steps.old ≤ steps.new }
+    ensures cost { steps.new ≤ steps.old + (to - from) }
+{
+    for word in from..to {
+        let bits = bank.word(first + word, steps);
+        if bits != 0 {
+            return Some(64 * word as u64 + u64::from(bits.trailing_zeros()));
+        }
+    }
+    None
 }

@@ -2,6 +2,7 @@
 #![tactic(auto)]
 
 mod counts;
+mod groups;
 pub mod ranksel;
 mod search;
 #[cfg(test)]

@@ -94,3 +94,64 @@ fn many_blocks(rt: HostRuntime) -> Result<(), Fail> {
     );
     Ok(())
 }
+
+/// The places of ones number `k` and `k + 1`.
+fn counted_pair<B: WordBank + Copy, L: Ledger>(
+    bits: &RankSel<B>,
+    k: u64,
+    blank: Blank,
+) -> Option<(u64, u64)>
+    requires name { blank.name ≡ L.name }
+    requires parts { blank.parts ≡ L.parts }
+    requires some { 0 < blank.parts }
+{
+    let mut steps = Steps::<L>::new(blank);
+    if k < bits.ones().saturating_sub(1) {
+        Some(bits.select_pair(k, &mut steps))
+    } else {
+        None
+    }
+}
+
+fn pair<B: WordBank + Copy>(bits: &RankSel<B>, k: u64) -> Option<(u64, u64)> {
+    counted_pair::<B, Brand>(bits, k, Blank::new(1))
+}
+
+#[test]
+fn ones_far_apart(rt: HostRuntime) -> Result<(), Fail> {
+    let mut words = [0; 12_500];
+    for k in 0..200 {
+        words[125 * k / 2] |= 1 << (k % 2 * 32);
+    }
+    let bits = RankSel::build(rt.alloc(), Words::new(&words), 0, 64 * 12_500)?;
+    assert_eq!(rt; bits.ones(), 200);
+    for k in 0..199 {
+        assert_eq!(rt; select(&bits, k), Some(4_000 * k));
+        assert_eq!(rt; pair(&bits, k), Some((4_000 * k, 4_000 * k + 4_000)));
+    }
+    assert_eq!(rt; select(&bits, 199), Some(4_000 * 199));
+    assert_eq!(rt; (select(&bits, 200), pair(&bits, 199)), (None, None));
+    Ok(())
+}
+
+#[test]
+fn groups_at_the_bound(rt: HostRuntime) -> Result<(), Fail> {
+    // 63 ones at the start and the last of a group in the thirtieth word or the one after
+    for (word, far) in [(29, 1), (30, 0)] {
+        let mut words = [0; 40];
+        words[0] = u64::MAX >> 1;
+        words[word] = 1 << far;
+        words[39] = 1 << 63;
+        let bits = RankSel::build(rt.alloc(), Words::new(&words), 0, 64 * 40)?;
+        let last = 64 * word as u64 + far;
+        assert_eq!(rt;
+            (select(&bits, 62), select(&bits, 63), select(&bits, 64)),
+            (Some(62), Some(last), Some(64 * 39 + 63))
+        );
+        assert_eq!(rt;
+            (pair(&bits, 61), pair(&bits, 62), pair(&bits, 63)),
+            (Some((61, 62)), Some((62, last)), Some((last, 64 * 39 + 63)))
+        );
+    }
+    Ok(())
+}

@@ -14,3 +14,13 @@ overflow_add-i g c =
     let size = length-fields e.low.width e.low.len words in
     let all = length-sums 0 e.width ones lows (omega (arith, e.ones, e.lows)) in
     omega (arith, c.requires, e.ones, e.few)
+
+pub select_pair-place-requires : goal.select_pair-place-requires
+select_pair-place-requires g c =
+    let e = c.args.self.now in
+    let ones = ones_of e.upper.bits (number_at e.upper.first (g.B.WordBank.words_of e.upper.bank)) in
+    let words = drop e.low.first (g.B.WordBank.words_of e.low.bank) in
+    let lows = fields e.low.width e.low.len words in
+    let size = length-fields e.low.width e.low.len words in
+    let all = length-sums 0 e.width ones lows (omega (arith, e.ones, e.lows)) in
+    omega (arith, c.requires)
