@@ -1,6 +1,6 @@
 //! What a hollow trie keeps of the inner nodes of a trie.
 
-ghost use Rattle.std.specs.Prelude.{◌≡◌, ◌-◌, ◌<◌, ◌≤◌, ◌^◌, All, IfOk, length, slice_index};
+ghost use Rattle.std.specs.Prelude.{◌≡◌, ◌-◌, ◌<◌, ◌≤◌, All, IfOk, length, slice_index};
 ghost use Rattle.sx_spec_kinds.specs.Hollow.{left_counts, skips};
 ghost use Rattle.sx_trie.specs.Tries.{AreRising, IsTrieOf, delimiter_bits};
 
