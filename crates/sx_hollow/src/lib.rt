@@ -4,6 +4,12 @@
 
 mod lists;
 mod view;
+mod walk;
 
 pub use lists::{HollowLists, hollow_lists};
 pub use view::HollowView;
+
+#[cfg(test)]
+mod lists_tests;
+#[cfg(test)]
+mod view_tests;

@@ -1,0 +1,4 @@
+pub mod Descents
+pub mod Gaps
+pub mod Rest
+pub mod NodeNumbers

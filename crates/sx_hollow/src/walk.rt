@@ -1,0 +1,77 @@
+//! Where the walk of a string stands in a hollow trie, and how it goes on.
+
+ghost use Rattle.std.specs.Prelude.{◌≡◌, ◌+◌, ◌<◌, ◌≤◌, ◌^◌, IfSome, length};
+ghost use Rattle.sx_spec_kinds.specs.Hollow.{child, descend, goes};
+ghost use Rattle.sx_bits.specs.Views.{bits_of};
+ghost use Rattle.sx_hollow.specs.Walks.{stand_of, walk_on};
+
+use sx_bits::BitView;
+
+/// Where a walk stands: at a node or at a leaf, from leaf `first` on, after `pos` bits of the string.
+#[derive(Clone, Copy)]
+pub(crate) struct Stand {
+    /// The number of the node in preorder.
+    pub(crate) node: u64,
+    /// How many leaves there are under it.
+    pub(crate) leaves: u64,
+    /// The first of them.
+    pub(crate) first: u64,
+    /// How many bits of the string led there.
+    pub(crate) pos: u32,
+}
+
+impl Stand {
+    /// The child that a bit names, where the left one has `left` leaves and the bit is the string's
+    /// bit `place`.
+    #[inline(always)]
+    fn child(&self, left: u64, place: u32, right: bool) -> Stand
+        requires fewer { left < self.now.leaves }
+        requires node { self.now.node + self.now.leaves < 2 ^ 32 }
+        requires first { self.now.first + self.now.leaves < 2 ^ 32 }
+        requires place { place < 65536 }
+        ensures { goes (stand_of result) ≡ child (stand_of self.now) left place right }
+    {
+        if right {
+            Stand {
+                node: self.node + left,
+                leaves: self.leaves - left,
+                first: self.first + left,
+                pos: place + 1,
+            }
+        } else {
+            Stand {
+                node: self.node + 1,
+                leaves: left,
+                first: self.first,
+                pos: place + 1,
+            }
+        }
+    }
+
+    /// On from an inner node that skips `skip` bits and whose left child has `left` leaves: to the
+    /// child that the string's next bit names. None where the left child has no leaf or all of them,
+    /// or the string ends before that bit. The numbers may be any.
+    #[inline(always)]
+    pub(crate) fn descend(&self, left: u64, skip: u64, view: &BitView<'_>) -> Option<Stand>
+        requires node { self.now.node + self.now.leaves < 2 ^ 32 }
+        requires first { self.now.first + self.now.leaves < 2 ^ 32 }
+        requires short { self.now.pos < length (bits_of view.now) }
+        ensures value { walk_on result
+            ≡ descend left skip (bits_of view.now) (stand_of self.now) }
+        ensures fewer { IfSome result (λ s. s.leaves < self.now.leaves) }
+        ensures node { IfSome result
+            (λ s. s.node + s.leaves ≤ self.now.node + self.now.leaves) }
+        ensures first { IfSome result
+            (λ s. s.first + s.leaves ≤ self.now.first + self.now.leaves) }
+        ensures farther { IfSome result (λ s. self.now.pos < s.pos) }
+        ensures short { IfSome result (λ s. s.pos ≤ length (bits_of view.now)) }
+    {
+        let rest = view.len() - self.pos;
+        // the sum of the place may want more than 64 bits, so the skip is measured by what is left
+        if left == 0 || self.leaves <= left || u64::from(rest) <= skip {
+            return None;
+        }
+        let place = self.pos + skip as u32;
+        Some(self.child(left, place, view.bit(place)))
+    }
+}
