@@ -23,7 +23,8 @@ length-key_bits : (line : List ℕ) → length (key_bits line) ≡ 8 * (length l
 unfolding key_bits
 length-key_bits line = let e = length-bytes_bits (line ++ 0 ∷ []) in let f = length-append line (0 ∷ []) in omega arith
 
-keys_short : (list : Keys) → IsKeyList list → AreShort (2 ^ 16) (map key_bits list.lines)
+-- keys have at most 2 ^ 16 bits
+pub keys_short : (list : Keys) → IsKeyList list → AreShort (2 ^ 16) (map key_bits list.lines)
 keys_short list are x i =
     let file = faultless_lines_are_keys list.limits list.lines are.faultless in
     let limit = are.limits.line in

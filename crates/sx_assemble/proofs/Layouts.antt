@@ -9,7 +9,7 @@ use Rattle.sx_spec.specs.Layout.{Header, header_words, layout, magic, section_wo
 use Rattle.sx_spec.proofs.Digits.{packed_fields_are_read_back}
 use Rattle.sx_fields.specs.Numbers.{Numbers as NumberList}
 use Rattle.sx_assemble.specs.declared.layout.SectionBuf.{SectionBuf}
-use Rattle.sx_assemble.specs.declared.layout.SectionBuf.TheVariants.{Function, Numbers}
+use Rattle.sx_assemble.specs.declared.layout.SectionBuf.TheVariants.{Function, Numbers, Sums}
 use Rattle.sx_assemble.specs.Sectioning.{IsWhole, held_words, section_built}
 use Rattle.sx_assemble.proofs.Cells.{words_le}
 
@@ -28,9 +28,10 @@ size_more sections i d within = ap (λ (ws : List ℕ). length ws) (words_more s
 -- ---- all words
 
 -- a section's words are those that it is to have
-section_laid : (s : SectionBuf) → IsWhole s → held_words s ≡ section_words (section_built s)
+pub section_laid : (s : SectionBuf) → IsWhole s → held_words s ≡ section_words (section_built s)
 section_laid (Function f) whole = λ i. f.width ∷ f.pairs ∷ whole.0 i ++ packed (whole.1 i) f.cells.items
 section_laid (Numbers n) whole = refl
+section_laid (Sums e) whole = λ i. whole.count i ∷ whole.below i ∷ whole.low i ++ whole.upper i
 
 pub sections_laid : (sections : List SectionBuf) → AllByRecursion IsWhole sections → flat_map held_words sections ≡ flat_map section_words (map section_built sections)
 sections_laid [] whole = refl

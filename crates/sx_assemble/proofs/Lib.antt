@@ -6,6 +6,7 @@ pub mod CodePairs
 pub mod KeyPairs
 pub mod KeyParts
 pub mod KeySizes
+pub mod HollowDumps
 pub mod Lcp2Dumps
 pub mod LcpDumps
 pub mod NarrowValues

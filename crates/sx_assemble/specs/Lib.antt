@@ -1,3 +1,4 @@
 pub mod Assembling
+pub mod Hollowing
 pub mod Ranking
 pub mod Sectioning

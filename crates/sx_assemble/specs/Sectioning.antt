@@ -6,40 +6,56 @@ use Rattle.sx_spec_strings.specs.Bits.{key_bits}
 use Rattle.sx_spec.specs.declared.Method.{Method}
 use Rattle.sx_spec.specs.declared.Plan.{Plan}
 use Rattle.sx_spec.specs.Built.{built_sections}
-use Rattle.sx_spec.specs.Fields.{packed}
-use Rattle.sx_spec.specs.Layout.{Header, Section, function_section, list_section, layout, table_words, u32_max}
+use Rattle.sx_spec.specs.Fields.{below_of, low_words, packed, upper_words}
+use Rattle.sx_spec.specs.Layout.{Header, Section, function_section, list_section, sums_section, layout, table_words, u32_max}
 use Rattle.sx_spec.specs.declared.Signature.{Signature}
 use Rattle.sx_spec.specs.Signature.{signature}
 use Rattle.sx_spec.specs.StaticFunction.{Entry, Part, part_entries, cell_count, IsCause, IsSeedFailure}
 use Rattle.sx_static.specs.declared.FuncBuf.{FuncBuf}
 use Rattle.sx_static.specs.Answer.{function_of, IsDone}
+use Rattle.sx_ef.specs.declared.encode.EfBuf.{EfBuf}
+use Rattle.sx_ef.specs.Parts.{numbers_in}
 use Rattle.sx_bits.specs.declared.pieces.Piece.{Piece}
 use Rattle.sx_bits.specs.Pieces.{piece_string}
 use Rattle.sx_assemble.specs.declared.Assembled.{Assembled}
 use Rattle.sx_assemble.specs.declared.Assembled.TheVariants.{Words, SeedFailed}
 use Rattle.sx_assemble.specs.declared.PartFault.{PartFault}
 use Rattle.sx_assemble.specs.declared.layout.SectionBuf.{SectionBuf}
-use Rattle.sx_assemble.specs.declared.layout.SectionBuf.TheVariants.{Function, Numbers}
+use Rattle.sx_assemble.specs.declared.layout.SectionBuf.TheVariants.{Function, Numbers, Sums}
 use Rattle.sx_assemble.specs.declared.parts.Stop.{Stop}
 use Rattle.sx_assemble.specs.declared.parts.Stop.TheVariants.{Memory, Part as PartStop}
 use Rattle.sx_assemble.specs.Assembling.{cause_of, failure_of, tries, HasWitnessesOf}
 
 -- ---- sections
 
+-- the numbers of an Elias-Fano list
+abbrev pub sums_in : EfBuf → List ℕ
+sums_in e = numbers_in e.count e.below (e.low.items ++ e.upper.items)
+
 -- the section that is built
 abbrev pub section_built : SectionBuf → Section
 section_built (Function f) = function_section (function_of f)
 section_built (Numbers n) = list_section n.width n.items
+section_built (Sums e) = sums_section (sums_in e)
 
 -- its words as they are held
 abbrev pub held_words : SectionBuf → List ℕ
 held_words (Function f) = f.width ∷ f.pairs ∷ f.table.items ++ packed f.cells.width f.cells.items
 held_words (Numbers n) = length n.items ∷ n.width ∷ packed n.width n.items
+held_words (Sums e) = e.count ∷ e.below ∷ e.low.items ++ e.upper.items
 
--- the table of a function is that of its chunks, and its cells have its width
+-- the words of an Elias-Fano list are those of its numbers
+pub record IsEncoded (e : EfBuf) (numbers : List ℕ) : Type 0 where
+  pub count : e.count ≡ length numbers
+  pub below : e.below ≡ below_of numbers
+  pub low : e.low.items ≡ low_words numbers
+  pub upper : e.upper.items ≡ upper_words numbers
+
+-- the table of a function is that of its chunks, and its cells have its width; the words of sums are those of its numbers
 abbrev pub IsWhole : SectionBuf → Type 0
 IsWhole (Function f) = (f.table.items ≡ table_words 0 (function_of f).chunks) × (f.cells.width ≡ f.width)
 IsWhole (Numbers n) = ⊤
+IsWhole (Sums e) = IsEncoded e (sums_in e)
 
 -- sections that make a dump
 pub record AreLaidOut (sections : List SectionBuf) : Type 0 where

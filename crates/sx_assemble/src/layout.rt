@@ -7,6 +7,7 @@ ghost use Rattle.sx_sections.specs.Headers.{header_as};
 ghost use Rattle.sx_assemble.specs.Sectioning.{IsWhole, held_words, section_built};
 
 use std::alloc::{AllocError, Global};
+use sx_ef::encode::EfBuf;
 use sx_fields::fields::{Fields, FieldsMut};
 use sx_fields::packed_buf::PackedBuf;
 use sx_sections::header::{FRONT, Header, front_words};
@@ -19,6 +20,8 @@ pub(crate) enum SectionBuf {
     Function(FuncBuf),
     /// A list of numbers.
     Numbers(PackedBuf),
+    /// A list of sums.
+    Sums(EfBuf),
 }
 
 /// How many words a section has.
@@ -31,6 +34,7 @@ fn size_of(section: &SectionBuf) -> usize
             2 + function.table.len() + function.cells.words().len()
         }
         SectionBuf::Numbers(numbers) => 2 + numbers.words().len(),
+        SectionBuf::Sums(sums) => 2 + sums.low.len() + sums.upper.len(),
     }
 }
 
@@ -69,6 +73,19 @@ fn push_list(words: &mut Vec<u64>, numbers: &PackedBuf) -> Result<(), AllocError
     Ok(())
 }
 
+/// Puts the words of an Elias-Fano list last: the number of its numbers, the number above the last of
+/// them, the low words and the upper words.
+fn push_sums(words: &mut Vec<u64>, sums: &EfBuf) -> Result<(), AllocError>
+    ensures { OnOk result (words.new.items
+        ≡ words.old.items ++ held_words (SectionBuf.Sums sums.now)) }
+{
+    words.push(sums.count)?;
+    words.push(sums.below)?;
+    words.extend_from_slice(&sums.low)?;
+    words.extend_from_slice(&sums.upper)?;
+    Ok(())
+}
+
 /// Puts the words of a section last.
 fn push_section(words: &mut Vec<u64>, section: &SectionBuf) -> Result<(), AllocError>
     ensures { OnOk result (words.new.items ≡ words.old.items ++ held_words section.now) }
@@ -76,6 +93,7 @@ fn push_section(words: &mut Vec<u64>, section: &SectionBuf) -> Result<(), AllocE
     match section {
         SectionBuf::Function(function) => push_function(words, function),
         SectionBuf::Numbers(numbers) => push_list(words, numbers),
+        SectionBuf::Sums(sums) => push_sums(words, sums),
     }
 }
 

@@ -9,6 +9,7 @@ ghost use Rattle.sx_assemble.specs.Assembling.{IsAssembled};
 ghost use Rattle.sx_assemble.specs.Sectioning.{AreLaidOut, IsFinished, header_for};
 
 mod func;
+mod hollow;
 mod layout;
 mod lcp;
 mod lcp2;
@@ -17,6 +18,7 @@ mod parts;
 mod signatures;
 
 use func::assemble_func;
+use hollow::assemble_hollow;
 use layout::{SectionBuf, dump_words};
 use lcp::assemble_lcp;
 use lcp2::assemble_lcp2;
@@ -83,8 +85,8 @@ fn finished(
     }
 }
 
-/// Builds the functions of the plan's kind from the keys, and lays out their dump in words, or tells
-/// why the seed doesn't work. There are as many values as keys: a static function gives each key its
+/// Builds what the plan's kind keeps of the keys, and lays out its dump in words, or tells why the
+/// seed doesn't work. There are as many values as keys: a static function gives each key its
 /// value, in as many bits as the greatest has, and the other kinds don't look at them. The steps are
 /// for reads of words, of which these kinds take none.
 ///
@@ -108,9 +110,12 @@ pub fn assemble<L: Ledger>(
         Kind::Func => assemble_func(alloc, keys, values, plan, seed),
         Kind::Lcp => assemble_lcp(alloc, keys, plan, seed),
         Kind::Lcp2 => assemble_lcp2(alloc, keys, plan, seed),
-        Kind::Hollow | Kind::HollowDist | Kind::Zfast => unreachable!(),
+        Kind::Hollow => assemble_hollow(alloc, keys, plan, seed),
+        Kind::HollowDist | Kind::Zfast => unreachable!(),
     }
 }
 
+#[cfg(test)]
+mod ranked_tests;
 #[cfg(test)]
 mod tests;

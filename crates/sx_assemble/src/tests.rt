@@ -16,7 +16,7 @@ use sx_spec::Limits;
 use sx_steps::Steps;
 
 /// Keys of at most 8,191 bytes, in order.
-fn keys_of(rt: &(impl Abort + AllocGlobal), lines: &[&[u8]]) -> Result<KeyList, Fail> {
+pub(crate) fn keys_of(rt: &(impl Abort + AllocGlobal), lines: &[&[u8]]) -> Result<KeyList, Fail> {
     let mut keys = KeyList::new(rt.alloc(), Limits::standard());
     for line in lines {
         assert!(rt; line.len() <= 8191);
@@ -26,7 +26,7 @@ fn keys_of(rt: &(impl Abort + AllocGlobal), lines: &[&[u8]]) -> Result<KeyList, 
 }
 
 /// What keys and values come to with seed 0, under a fresh count of steps.
-fn assembled_under<L: Ledger>(
+pub(crate) fn assembled_under<L: Ledger>(
     alloc: Global,
     keys: &KeyList,
     values: &[u64],

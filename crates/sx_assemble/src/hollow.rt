@@ -1,0 +1,96 @@
+//! Dumps of hollow tries.
+
+ghost use Rattle.std.specs.Prelude.{◌≡◌, ◌≤◌, ◌<◌, ◌^◌, IfOk, length, map};
+ghost use Rattle.std.specs.List.{range_with_len};
+ghost use Rattle.sx_spec_strings.specs.Bits.{key_bits};
+ghost use Rattle.sx_spec_kinds.specs.Hollow.{left_counts, skips};
+ghost use Rattle.sx_spec.specs.Built.{sums_from, sums_list};
+ghost use Rattle.sx_bits.specs.KeyLists.{IsKeyList};
+ghost use Rattle.sx_assemble.specs.Hollowing.{AreHollow, IsHollowPlan};
+ghost use Rattle.sx_assemble.specs.Ranking.{IsRanked};
+ghost use Rattle.sx_assemble.specs.Sectioning.{IsWhole, section_built};
+
+use crate::layout::SectionBuf;
+use crate::{Assembled, finished, header_of};
+use std::alloc::{AllocError, Global};
+use sx_bits::KeyList;
+use sx_ef::view::EliasFano;
+use sx_hollow::{HollowLists, hollow_lists};
+use sx_sig::Plan;
+
+/// The numbers from 0 up to before `count`.
+fn members_to(alloc: Global, count: u32) -> Result<Vec<u32>, AllocError>
+    ensures { IfOk result (λ members. members.items ≡ range_with_len 0 count) }
+{
+    let mut members = Vec::with_capacity(alloc, count as usize)?;
+    for i in 0..count {
+        members.push(i)?;
+    }
+    Ok(members)
+}
+
+/// The lists of the trie of all keys.
+fn key_lists(alloc: Global, keys: &KeyList) -> Result<HollowLists, AllocError>
+    ensures left { IfOk result (λ h. h.left.items ≡ left_counts (map key_bits keys.now.lines)) }
+    ensures skip { IfOk result (λ h. h.skip.items ≡ skips (map key_bits keys.now.lines)) }
+    ensures keys { IsKeyList keys.now }
+{
+    let members = members_to(alloc, keys.len())?;
+    hollow_lists(alloc, keys, &members)
+}
+
+/// The sums of the first numbers, of none to all of them.
+fn sums_to(alloc: Global, numbers: &[u32]) -> Result<Vec<u64>, AllocError>
+    requires { length numbers.now ≤ 4194304 }
+    ensures { IfOk result (λ sums. sums.items ≡ sums_from 0 numbers.now) }
+{
+    let mut sums = Vec::with_capacity(alloc, numbers.len() + 1)?;
+    let mut sum = 0u64;
+    for number in numbers {
+        sums.push(sum)?;
+        sum += u64::from(*number);
+    }
+    sums.push(sum)?;
+    Ok(sums)
+}
+
+/// The section of the sums of the first numbers.
+fn sums_section(alloc: Global, numbers: &[u32]) -> Result<SectionBuf, AllocError>
+    requires { length numbers.now ≤ 4194304 }
+    ensures built { IfOk result (λ s. section_built s ≡ sums_list numbers.now) }
+    ensures whole { IfOk result IsWhole }
+{
+    let sums = sums_to(alloc, numbers)?;
+    Ok(SectionBuf::Sums(EliasFano::encode(alloc, &sums)?))
+}
+
+/// The sections of the kind `hollow`. The trie and each list of sums are gone when the next list of
+/// sums is made.
+fn hollow_sections(alloc: Global, keys: &KeyList) -> Result<Vec<SectionBuf>, AllocError>
+    ensures { IfOk result (λ s. AreHollow keys.now.lines s.items) }
+{
+    let lists = key_lists(alloc, keys)?;
+    let left = sums_section(alloc, &lists.left)?;
+    let skip = sums_section(alloc, &lists.skip)?;
+    Ok(vec![in alloc; left, skip]?)
+}
+
+/// Builds the hollow trie of the keys, by which each key is answered its number, and lays out its
+/// dump in words. The plan is one of an unsigned `hollow` with signatures of at most 192 bits, of
+/// which there are none: no seed fails. Values of keys don't count.
+///
+/// # Errors
+///
+/// Want of memory.
+pub(crate) fn assemble_hollow(
+    alloc: Global,
+    keys: &KeyList,
+    plan: &Plan,
+    seed: u64,
+) -> Result<Assembled, AllocError>
+    requires { IsHollowPlan plan.now }
+    ensures { IfOk result (IsRanked keys.now.lines plan.now seed) }
+{
+    let sections = hollow_sections(alloc, keys)?;
+    finished(alloc, &header_of(keys, plan, seed), Ok(sections))
+}

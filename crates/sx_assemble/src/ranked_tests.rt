@@ -1,0 +1,91 @@
+//! Words of small dumps of the kinds that answer each key its number.
+
+ghost use Rattle.std.specs.Prelude.{◌≡◌, ◌≤◌};
+ghost use Rattle.sx_spec.specs.declared.Method.TheVariants.{Mwhc};
+ghost use Rattle.sx_spec_program.specs.Program.{IsOfferedPlan};
+
+use crate::Assembled;
+use crate::tests::{assembled_under, keys_of};
+use std::marker::Brand;
+use std::process::Abort;
+use std::sync::ledger::Blank;
+use std::test::Fail;
+use sx_sig::{Kind, Method, Plan};
+
+/// A plan of whole signatures, with blocks of 2 to the power `log_bucket` keys.
+fn plan_of(kind: Kind, log_bucket: u32) -> Plan
+    ensures { result ≡ record {
+      kind = kind;
+      method = Mwhc;
+      log_bucket = log_bucket;
+      sig_bits = 192;
+      handle_bits = 0;
+      signed = 0;
+    } }
+{
+    Plan {
+        kind,
+        method: Method::Mwhc,
+        log_bucket,
+        sig_bits: 192,
+        handle_bits: 0,
+        signed: 0,
+    }
+}
+
+/// The words of the dump of the keys, for which seed 0 works.
+fn ranked(rt: &(impl Abort + AllocGlobal), plan: &Plan, lines: &[&[u8]]) -> Result<Vec<u64>, Fail>
+    requires { IsOfferedPlan plan.now }
+{
+    let keys = keys_of(rt, lines)?;
+    let values = vec![in rt.alloc(); 0u64; keys.len() as usize]?;
+    let blank = Blank::new(1);
+    let words = match assembled_under::<Brand>(rt.alloc(), &keys, &values, plan, blank)? {
+        Assembled::Words(words) => Some(words),
+        Assembled::SeedFailed(_) => None,
+    };
+    Ok(words.ok_or("the seed fails")?)
+}
+
+#[test]
+fn lengths_and_prefixes(rt: HostRuntime) -> Result<(), Fail> {
+    // the prefixes of the blocks have 6 and 5 bits, so the greatest number is 1 + 2 * 6
+    let words = ranked(&rt, &plan_of(Kind::Lcp, 1), &[b"a", b"b", b"c", b"d"])?;
+    assert_eq!(rt; words.get(10..12), Some([4, 4].as_slice()));
+    assert_eq!(rt; words.get(15..17), Some([1, 2].as_slice()));
+    // the empty key has 8 bits, the longest 65,536
+    let words = ranked(&rt, &plan_of(Kind::Lcp, 1), &[b""])?;
+    assert_eq!(rt; words.get(10..12), Some([5, 1].as_slice()));
+    let line = vec![in rt.alloc(); b'x'; 8191]?;
+    let words = ranked(&rt, &plan_of(Kind::Lcp, 12), &[&line])?;
+    assert_eq!(rt; words.get(10..12), Some([29, 1].as_slice()));
+    Ok(())
+}
+
+#[test]
+fn codes_and_their_table(rt: HostRuntime) -> Result<(), Fail> {
+    let words = ranked(&rt, &plan_of(Kind::Lcp2, 1), &[b"a", b"b", b"c", b"d"])?;
+    assert_eq!(rt; words.get(10..12), Some([1, 4].as_slice()));
+    assert_eq!(rt; words.get(15..17), Some([2, 4].as_slice()));
+    // the lengths are 6 6 5 5, which the table has in rising order
+    assert_eq!(rt; words.get(20..23), Some([2, 3, 53].as_slice()));
+    Ok(())
+}
+
+#[test]
+fn sums_of_a_trie(rt: HostRuntime) -> Result<(), Fail> {
+    let front = [0x3150_4D55_4458_5553, 17, 3, 0, 3, 0, 192, 0, 0, 0];
+    // one leaf is left of each node; the root skips 6 bits, and the other node none
+    let words = ranked(&rt, &plan_of(Kind::Hollow, 0), &[b"a", b"b", b"c"])?;
+    assert_eq!(rt; words.get(..10), Some(front.as_slice()));
+    assert_eq!(rt; words.get(10..13), Some([3, 3, 21].as_slice()));
+    assert_eq!(rt; words.get(13..), Some([3, 7, 0, 49].as_slice()));
+    // no node: the lists have the one number 0
+    let words = ranked(&rt, &plan_of(Kind::Hollow, 0), &[])?;
+    assert_eq!(rt; (words.len(), words.get(4)), (16, Some(&0)));
+    assert_eq!(rt; words.get(10..), Some([1, 1, 1, 1, 1, 1].as_slice()));
+    let words = ranked(&rt, &plan_of(Kind::Hollow, 0), &[b"a"])?;
+    assert_eq!(rt; (words.len(), words.get(4)), (16, Some(&1)));
+    assert_eq!(rt; words.get(10..), Some([1, 1, 1, 1, 1, 1].as_slice()));
+    Ok(())
+}
