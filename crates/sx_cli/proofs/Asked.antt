@@ -19,6 +19,7 @@ use Rattle.sx_cli.proofs.FirstFaults.{long_query_is, many_queries_is}
 use Rattle.sx_cli.proofs.Queries.{file_failed, dump_refused, query_memory, query_done, input_failed, answers_failed, line_refused}
 use Rattle.sx_cli.specs.Opening.{IsOpened, StopsAtFile, StopsAtCheck}
 use Rattle.std.specs.Io.KnownBytes.{Keeps}
+use Rattle.sx_cli.specs.Lines.{longest_line}
 
 module _ (name : Text) (before after : World) (ticks : ℕ) (result : Status) (counts : CountsStay (is_fault result) before after) (d : Dump) (stored : IsStored sux_program name before d) where
   abbrev old : Streams
@@ -32,11 +33,11 @@ module _ (name : Text) (before after : World) (ticks : ℕ) (result : Status) (c
       → Promise sux_program (query name) before after ticks result
   served_ends Done all files e = query_done name before after ticks result counts d stored all.lines all.all all.answered files e.err e.is
   served_ends (TooLong line) long files e =
-      line_refused name before after ticks result counts d stored long.lines (long_query_text (length long.lines + 1)) (λ l. 8191 < length l) long.stops long.answered
+      line_refused name before after ticks result counts d stored long.lines (long_query_text (length long.lines + 1)) (λ l. longest_line < length l) long.stops long.answered
       (λ l more is. long_query_is standard_limits long.lines l more long.answered.queries.short long.answered.queries.few is) files
       (subst (λ (n : ℕ). Tells (long_query_text n) BadInput before.err after.err before.faults.err after.faults.err result) long.at e)
   served_ends TooMany many files e =
-      line_refused name before after ticks result counts d stored many.lines (many_queries_text (length many.lines + 1)) (λ l. length l ≤ 8191) many.stops many.answered
+      line_refused name before after ticks result counts d stored many.lines (many_queries_text (length many.lines + 1)) (λ l. length l ≤ longest_line) many.stops many.answered
       (λ l more is. many_queries_is standard_limits many.lines l more many.answered.queries.short many.many is) files
       (subst (λ (n : ℕ). Tells (many_queries_text (n + 1)) BadInput before.err after.err before.faults.err after.faults.err result) (sym many.many) e)
   served_ends InputFailed broken files e = input_failed name before after ticks result counts d stored broken.lines broken.fails broken.answered broken.cause files e

@@ -23,6 +23,7 @@ use Rattle.sx_cli.specs.Telling.{Tells, Fails}
 use Rattle.sx_cli.specs.Writing.{SetsPart}
 use Rattle.sx_cli.proofs.Endings.{by_message, by_memory_message, by_failure, kept_appends}
 use Rattle.sx_cli.proofs.Promises.{by_outcome}
+use Rattle.sx_cli.specs.Lines.{longest_line}
 
 -- the lines that were read to the end are those of input
 pub all_lines : (old new : Option (List ℕ)) (ls : List Text) → ReadsAll old new ls → IfSome old (λ bytes. ls ≡ lines bytes)
@@ -37,7 +38,7 @@ module _ (t : BuildTask) (before after : World) (ticks : ℕ) (result : Status) 
   not_out place (inr input) only = absurd (only.alone the_input (λ same. absurd cc) input)
 
   -- input failed in the midst of the keys
-  pub keys_failed : (keys : List Text) → FailsBehind before.input after.input 8191 keys → AreKeys standard_limits keys → CountRose before after the_input
+  pub keys_failed : (keys : List Text) → FailsBehind before.input after.input longest_line keys → AreKeys standard_limits keys → CountRose before after the_input
       → KeepsFiles before.files after.files → Keeps before.out after.out → Fails at_input before.err after.err before.faults.err after.faults.err result
       → Promise sux_program (build t) before after ticks result
   keys_failed keys fails valid rose files out told = by_failure (build t) before after ticks at_input result told rose

@@ -34,6 +34,7 @@ use Rattle.sx_cli.proofs.Builds.{all_lines}
 use Rattle.sx_cli.proofs.Endings.{by_message, by_memory_message, by_failure, kept_appends}
 use Rattle.sx_cli.proofs.Promises.{by_outcome}
 use Rattle.sx_cli.proofs.FirstFaults.{served_before, enumerate_from-append, queries_fine, no_query_fault, all_served}
+use Rattle.sx_cli.specs.Lines.{longest_line}
 
 -- ---- the lines that are served
 
@@ -181,7 +182,7 @@ module _ (name : Text) (before after : World) (ticks : ℕ) (result : Status) (c
         tt counts
 
     -- input failed; the complete lines before are answered
-    pub input_failed : (ls : List Text) → FailsBehind before.input after.input 8191 ls → Answers d ls before.out after.out ticks → CountRose before after the_input
+    pub input_failed : (ls : List Text) → FailsBehind before.input after.input longest_line ls → Answers d ls before.out after.out ticks → CountRose before after the_input
         → KeepsFiles before.files after.files → Fails at_input before.err after.err before.faults.err after.faults.err result → Promise sux_program task before after ticks result
     input_failed ls fails answered rose files told =
         let whole : served standard_limits (complete_lines fails.taken) ≡ ls = ap (served standard_limits) fails.are ∙ all_served standard_limits ls answered.queries.short answered.queries.few in

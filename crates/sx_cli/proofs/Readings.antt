@@ -10,6 +10,7 @@ use Rattle.sx_cli.specs.Building.{RefusesLine}
 use Rattle.sx_cli.specs.Progress.{Progress, ReadsAll, FailsBehind, StopsAt}
 use Rattle.sx_cli.proofs.Advances.{line_fed, line_last, all_read, fails_behind, long_line, stops_at_last}
 use Rattle.sx_cli.proofs.FirstFaults.{first_fault_is, long_refused}
+use Rattle.sx_cli.specs.Lines.{longest_line}
 
 some_bytes : (line : List ℕ) → line ≢ [] → 0 < length line
 some_bytes [] ne = absurd (ne refl)
@@ -61,7 +62,7 @@ refused_line first now ls IsLine fault stops refuses = record { taken = stops.ta
     told (Some bytes) (rest, other, is, are) = ap (first_key_fault standard_limits) are ∙ refuses other rest is
 
 -- a line that is too long
-pub long_key : (first now : Option (List ℕ)) (ls : List Text) (max n number : ℕ) → max ≡ 8191 → number ≡ length ls → n ≡ number + 1 → AreKeys standard_limits ls → StopsAt first now ls (λ line. max < length line)
+pub long_key : (first now : Option (List ℕ)) (ls : List Text) (max n number : ℕ) → max ≡ longest_line → number ≡ length ls → n ≡ number + 1 → AreKeys standard_limits ls → StopsAt first now ls (λ line. max < length line)
     → RefusesLine first now (record { line = n; reason = too_long })
 long_key first now ls max n number is_max count at valid stops =
     let e : length ls + 1 ≡ n = omega arith in

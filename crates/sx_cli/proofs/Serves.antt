@@ -22,6 +22,7 @@ use Rattle.sx_cli.proofs.Advances.{starts, stops_at_last}
 use Rattle.sx_cli.proofs.FedLines.{all_push}
 use Rattle.sx_cli.proofs.Queries.{answers_begin}
 use Rattle.sx_cli.proofs.Readings.{after_line, line_short, at_end, at_fault, at_long_line}
+use Rattle.sx_cli.specs.Lines.{longest_line}
 
 -- a number and a line feed were put behind what was held
 pub put_answer : (held mid put : List ℕ) (d : Dump) (line : Text) (text : Text) → text ≡ reply_text (reply d line) → mid ≡ held ++ text → put ≡ mid ++ 10 ∷ []
@@ -34,7 +35,7 @@ put_answer held mid put d line text is first last =
 -- ---- how serving goes on
 
 -- before the first line
-pub begins : (d : Dump) (input out : Option (List ℕ)) (reader : Reading) (held : List ℕ) (ticks : ℕ) → reader ≡ record { max = 8191; number = 0; held = []; ended = false; fault = None; line = None } → held ≡ [] → ticks ≡ 0
+pub begins : (d : Dump) (input out : Option (List ℕ)) (reader : Reading) (held : List ℕ) (ticks : ℕ) → reader ≡ record { max = longest_line; number = 0; held = []; ended = false; fault = None; line = None } → held ≡ [] → ticks ≡ 0
     → Serving d input input reader out out held ticks
 begins d input out reader held ticks fresh none no_ticks = record {
   lines = [];
@@ -88,7 +89,7 @@ pub line_answered : (d : Dump) (first now then : Option (List ℕ)) (reader new 
     → Serving d first now reader out mid held ticks → GivesLine reader new now then → (line : Text) → new.line ≡ Some line → new.max ≡ reader.max → new.fault ≡ None → new.number ≤ max_queries
     → replies ≡ held ++ answers d (line ∷ []) → more ≤ ticks + reads d line → Serving d first then new out mid replies more
 line_answered d first now then reader new out mid held replies ticks more s gives line is max fault few put bound =
-    let short : length line ≤ 8191 = subst (λ (n : ℕ). length line ≤ n) s.max (line_short first now then reader new s.lines s.progress gives line is) in
+    let short : length line ≤ longest_line = subst (λ (n : ℕ). length line ≤ n) s.max (line_short first now then reader new s.lines s.progress gives line is) in
     let count = length-append s.lines (line ∷ []) in
     let number = gives.number in
     let number_before = s.number in
@@ -98,7 +99,7 @@ line_answered d first now then reader new out mid held replies ticks more s give
     record {
       lines = s.lines ++ line ∷ [];
       progress = after_line first now then reader new s.lines s.progress gives line is;
-      queries = record { short = all_push (λ (l : Text). length l ≤ 8191) s.lines line s.queries.short short; few = omega (arith, count) };
+      queries = record { short = all_push (λ (l : Text). length l ≤ longest_line) s.lines line s.queries.short short; few = omega (arith, count) };
       number = omega (arith, count);
       max = max ∙ s.max;
       fault = fault;
@@ -161,8 +162,8 @@ module _ (d : Dump) (old new : Streams) (now mid : Option (List ℕ)) (reader : 
   -- at a line too many
   pub ends_many : (after : Reading) → GivesLine reader after now new.input → max_queries < after.number → (between : ℕ) (result : Served) → old.out_faults ≤ between → Finishes held mid new.out between new.out_faults TooMany result → ServedTo d old new ticks result
   ends_many after gives over between result later finishes =
-      let short : length gives.line ≤ 8191 = subst (λ (n : ℕ). length gives.line ≤ n) s.max (line_short old.input now new.input reader after s.lines s.progress gives gives.line gives.is) in
-      let stops = stops_at_last old.input new.input after.held after.ended s.lines gives.line (λ line. length line ≤ 8191) short (after_line old.input now new.input reader after s.lines s.progress gives gives.line gives.is) in
+      let short : length gives.line ≤ longest_line = subst (λ (n : ℕ). length gives.line ≤ n) s.max (line_short old.input now new.input reader after s.lines s.progress gives gives.line gives.is) in
+      let stops = stops_at_last old.input new.input after.held after.ended s.lines gives.line (λ line. length line ≤ longest_line) short (after_line old.input now new.input reader after s.lines s.progress gives gives.line gives.is) in
       let number = gives.number in
       let number_before = s.number in
       let few = s.queries.few in

@@ -10,6 +10,7 @@ use Rattle.sx_spec_strings.specs.First.{first}
 use Rattle.sx_spec.specs.Command.{Text}
 use Rattle.sx_spec.specs.Values.{ValuesFault, not_a_number, more_than_keys, fewer_than_keys, is_numeral, numeral_value, value_on, value_fault, values_faults}
 use Rattle.sx_cli.proofs.FirstFaults.{enumerate_from-append}
+use Rattle.sx_cli.specs.Lines.{longest_line}
 
 -- ---- long lines
 
@@ -37,7 +38,7 @@ one_of true d e = inl refl
 one_of false d e = inr e
 
 -- a line that is too long gives no value
-pub long_no_value : (text : List ℕ) → 8191 < length text → value_on text ≡ None
+pub long_no_value : (text : List ℕ) → longest_line < length text → value_on text ≡ None
 long_no_value [] long = absurd (omega arith)
 long_no_value (c ∷ text) long = by_test (is_numeral (c ∷ text)) refl (nat_lt (numeral_value (c ∷ text)) (2 ^ 64)) refl
   where

@@ -17,9 +17,10 @@ use Rattle.sx_cli.proofs.Advances.{starts, stops_at_last}
 use Rattle.sx_cli.proofs.Builds.{all_lines}
 use Rattle.sx_cli.proofs.Readings.{after_line, at_end, at_long_line}
 use Rattle.sx_cli.proofs.ValueFaults.{values_grow, first_value_fault, enough_values, few_values}
+use Rattle.sx_cli.specs.Lines.{longest_line}
 
 -- before the first line
-pub no_values : (keys : ℕ) (first : Option (List ℕ)) (reader : Reading) (values : List ℕ) → reader ≡ record { max = 8191; number = 0; held = []; ended = false; fault = None; line = None } → values ≡ []
+pub no_values : (keys : ℕ) (first : Option (List ℕ)) (reader : Reading) (values : List ℕ) → reader ≡ record { max = longest_line; number = 0; held = []; ended = false; fault = None; line = None } → values ≡ []
     → ReadingValues keys first first reader values
 no_values keys first reader values fresh none = record {
   lines_read = [];
@@ -77,12 +78,12 @@ module _ (keys : ℕ) (first now then : Option (List ℕ)) (reader new : Reading
       (λ other same. subst (λ (l : Text). StopsValue keys at l stop) (sym same) stops)
 
   -- the next line is too long
-  pub long_stops : (n : ℕ) → IsTooLong reader new now then n → (before after : ℕ) (stop : ValuesStop) → ((text : Text) → 8191 < length text → StopsValue keys n text stop) → StopsLines keys first before after stop
+  pub long_stops : (n : ℕ) → IsTooLong reader new now then n → (before after : ℕ) (stop : ValuesStop) → ((text : Text) → longest_line < length text → StopsValue keys n text stop) → StopsLines keys first before after stop
   long_stops n long before after stop stops =
       let number = long.at in
       let number_before = r.number in
       let at = subst (λ (m : ℕ). StopsAt first then r.lines_read (λ line. m < length line)) r.max (at_long_line first now then reader new r.lines_read r.progress n long) in
-      stops_behind keys first then r.lines_read (λ line. 8191 < length line) n before after stop (omega (arith, number, number_before)) r.fine at stops
+      stops_behind keys first then r.lines_read (λ line. longest_line < length line) n before after stop (omega (arith, number, number_before)) r.fine at stops
 
   -- all lines were read
   pub values_end : GivesEnd reader new now then → (before after : ℕ) (V : Type 0) (items_of : V → List ℕ) (result : Result V ValuesStop)

@@ -11,6 +11,7 @@ use Rattle.sx_cli.specs.declared.keys.KeysStop.TheVariants.{Refused, Failed, Mem
 use Rattle.sx_cli.specs.Building.{RefusesLine}
 use Rattle.sx_text.specs.Reasons.{reason_of, fault_of}
 use Rattle.sx_cli.specs.Progress.{ReadsAll, FailsBehind}
+use Rattle.sx_cli.specs.Lines.{longest_line}
 
 -- whether no key list was read since input has failed
 abbrev pub keys_failed : {T : Type 0} → Result T KeysStop → Bool
@@ -26,7 +27,7 @@ pub record ReadsKeys (old new : Option (List ℕ)) (keys : Keys) : Type 0 where
 -- input failed behind lines that are keys
 pub record FailsKeys (old new : Option (List ℕ)) (before after : ℕ) : Type 0 where
   pub keys : List Text
-  pub behind : FailsBehind old new 8191 keys
+  pub behind : FailsBehind old new longest_line keys
   pub valid : AreKeys standard_limits keys
   pub cause : Rose before after
 

@@ -1,6 +1,7 @@
 pub mod FileWords
 pub mod Building
 pub mod KeyLines
+pub mod Lines
 pub mod KeyReading
 pub mod Opening
 pub mod Progress

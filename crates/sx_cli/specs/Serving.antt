@@ -16,6 +16,7 @@ use Rattle.sx_cli.specs.declared.serve.Served.{Served}
 use Rattle.sx_cli.specs.declared.serve.Served.TheVariants.{Done, TooLong, TooMany, InputFailed, OutputFailed}
 use Rattle.sx_cli.specs.Progress.{Progress, ReadsAll, FailsBehind, BreaksBehind, StopsAt}
 use Rattle.sx_cli.specs.Served.{AreQueries, Answers}
+use Rattle.sx_cli.specs.Lines.{longest_line}
 
 -- what input and out hold and how many faults each has counted
 pub record Streams : Type 0 where
@@ -43,21 +44,21 @@ pub record AllServed (d : Dump) (old new : Streams) (ticks : ℕ) : Type 0 where
 -- a line is too long; those before it were answered
 pub record LongLine (d : Dump) (old new : Streams) (ticks number : ℕ) : Type 0 where
   pub lines : List Text
-  pub stops : StopsAt old.input new.input lines (λ line. 8191 < length line)
+  pub stops : StopsAt old.input new.input lines (λ line. longest_line < length line)
   pub at : number ≡ length lines + 1
   pub answered : Answers d lines old.out new.out ticks
 
 -- a line is one too many; those before it were answered
 pub record OneTooMany (d : Dump) (old new : Streams) (ticks : ℕ) : Type 0 where
   pub lines : List Text
-  pub stops : StopsAt old.input new.input lines (λ line. length line ≤ 8191)
+  pub stops : StopsAt old.input new.input lines (λ line. length line ≤ longest_line)
   pub many : length lines ≡ max_queries
   pub answered : Answers d lines old.out new.out ticks
 
 -- input failed; the complete lines before were answered
 pub record InputBroken (d : Dump) (old new : Streams) (ticks : ℕ) : Type 0 where
   pub lines : List Text
-  pub fails : FailsBehind old.input new.input 8191 lines
+  pub fails : FailsBehind old.input new.input longest_line lines
   pub answered : Answers d lines old.out new.out ticks
   pub cause : Rose old.input_faults new.input_faults
 
@@ -84,7 +85,7 @@ pub record Serving (d : Dump) (first now : Option (List ℕ)) (reader : Reading)
   pub progress : Progress first now reader.held reader.ended lines
   pub queries : AreQueries lines
   pub number : reader.number ≡ length lines
-  pub max : reader.max ≡ 8191
+  pub max : reader.max ≡ longest_line
   pub fault : reader.fault ≡ None
   pub written : List ℕ
   pub out : Appends old_out new_out written

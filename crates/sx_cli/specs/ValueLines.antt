@@ -13,6 +13,7 @@ use Rattle.sx_cli.specs.Progress.{Progress}
 use Rattle.sx_text.specs.Reasons.{values_fault_of}
 use Rattle.sx_cli.specs.declared.values.ValuesStop.{ValuesStop}
 use Rattle.sx_cli.specs.declared.values.ValuesStop.TheVariants.{Refused, Failed, Memory}
+use Rattle.sx_cli.specs.Lines.{longest_line}
 
 -- whether no values were read since the shelf has failed
 abbrev pub values_failed : {T : Type 0} → Result T ValuesStop → Bool
@@ -74,7 +75,7 @@ pub record ReadingValues (keys : ℕ) (first now : Option (List ℕ)) (reader : 
   pub lines_read : List Text
   pub progress : Progress first now reader.held reader.ended lines_read
   pub number : reader.number ≡ length lines_read
-  pub max : reader.max ≡ 8191
+  pub max : reader.max ≡ longest_line
   pub fault : reader.fault ≡ None
   pub within : length lines_read ≤ keys
   pub fine : filter_map (value_fault keys) (enumerate_from 1 lines_read) ≡ []

@@ -6,6 +6,7 @@ ghost use Rattle.sx_spec.specs.Reply.{answers, reads};
 ghost use Rattle.sx_dump.specs.Opening.{dump_in};
 ghost use Rattle.sx_cli.specs.Objects.{streams_of, FinishesOn};
 ghost use Rattle.sx_cli.specs.Serving.{input_failed, out_failed, ServedTo, WritesHeld};
+ghost use Rattle.sx_cli.specs.Lines.{longest_line};
 
 use crate::keys::MAX_LINE;
 use std::sync::ledger::Ledger;
@@ -60,7 +61,7 @@ fn put_reply<B: WordBank + Copy, L: Ledger>(
     replies: &mut TextBuffer,
     steps: &mut Steps<L>,
 )
-    requires short { length line.now ≤ 8191 }
+    requires short { length line.now ≤ longest_line }
     requires room { length replies.old ≤ 65494 }
     ensures put { replies.new
         ≡ replies.old ++ answers (dump_in (B.words_of dump.now.bank)) (line.now ∷ []) }
@@ -93,8 +94,9 @@ pub fn serve<B: WordBank + Copy, S: Source, O: Sink, L: Ledger>(
     out: &mut O,
     steps: &mut Steps<L>,
 ) -> Served
-    requires fresh { reader.old
-        ≡ record { max = 8191; number = 0; held = []; ended = false; fault = None; line = None } }
+    requires fresh { reader.old ≡ record {
+      max = longest_line; number = 0; held = []; ended = false; fault = None; line = None;
+    } }
     requires empty { replies.old ≡ [] }
     ensures served { ServedTo (dump_in (B.words_of dump.now.bank))
         (streams_of S.Source O.Sink input.old out.old)

@@ -6,6 +6,7 @@ ghost use Rattle.sx_spec.specs.Command.{Text};
 ghost use Rattle.sx_spec.specs.Values.{plain_values};
 ghost use Rattle.sx_spec.specs.World.{KeepsFiles};
 ghost use Rattle.sx_cli.specs.ValueLines.{values_failed, ReadsValues, StopsLines, GivesFile, StopsFile, StopsValue, PutsValue, IsTooFew};
+ghost use Rattle.sx_cli.specs.Lines.{longest_line};
 
 use crate::keys::MAX_LINE;
 use std::alloc::{AllocError, Global};
@@ -38,7 +39,7 @@ pub fn ranks(alloc: Global, count: u32) -> Result<Vec<u64>, AllocError>
 
 /// Why a line of this number, which is longer than any number, is refused.
 fn long_line(keys: u32, line: u64) -> ValuesStop
-    ensures { (text : Text) → 8191 < length text → StopsValue keys line text result }
+    ensures { (text : Text) → longest_line < length text → StopsValue keys line text result }
 {
     if line > u64::from(keys) {
         ValuesStop::Refused(ValuesFault::MoreThanKeys { line })

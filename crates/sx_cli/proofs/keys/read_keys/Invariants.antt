@@ -3,6 +3,7 @@ use Rattle.sx_spec.specs.Keys.{standard_limits}
 use Rattle.sx_spec.specs.Keys.{AreKeys}
 use Rattle.sx_cli.specs.Progress.{Progress}
 use Rattle.sx_cli.proofs.keys.read_keys.Given as goal
+use Rattle.sx_cli.specs.Lines.{longest_line}
 
 abbrev pub invariant-lines : goal.invariant-lines
 invariant-lines g l = record {
@@ -10,7 +11,7 @@ invariant-lines g l = record {
   limits : l.keys.limits ≡ standard_limits;
   valid : AreKeys standard_limits l.keys.lines;
   number : l.reader.number ≡ length l.keys.lines;
-  max : l.reader.max ≡ 8191;
+  max : l.reader.max ≡ longest_line;
   fault : l.reader.fault ≡ None;
   few : length l.keys.lines ≤ 4194304;
   calm : g.S.Source.faults l.input ≡ g.S.Source.faults l.initial.input;
