@@ -14,19 +14,14 @@ pub(crate) fn select_in_word(word: u64, k: u32) -> u32
     let mut place = 0;
     let mut left = k;
     let mut size = 64;
-    let mut rest = word;
     while size > 1 {
         let half = size / 2;
-        let low = rest & u64::MAX >> (64 - half);
-        let count = low.count_ones();
-        if left < count {
-            rest = low;
-            size = half;
-        } else {
-            rest >>= half;
+        size -= half;
+        let count = (word >> place & u64::MAX >> (64 - half)).count_ones();
+        // both are cheap, so that they may be done without a branch
+        if count <= left {
             left -= count;
             place += half;
-            size -= half;
         }
     }
     place
