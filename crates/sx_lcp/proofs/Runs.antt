@@ -18,9 +18,9 @@ counted_some o n not_zero =
     elim (cases_Bool (n == 0)) [
       | inl none ↦ rw none not_zero
       | inr some ↦ rw some (λ (e : Some (unwrap_or o 0 + n) ≡ Some 0).
-        let sum : unwrap_or o 0 + n ≡ 0 = ap (λ (p : Option ℕ). unwrap_or p 0) e in
-        let z : n ≡ 0 = omega arith in
-        eqb-false n 0 some z)
+          let sum : unwrap_or o 0 + n ≡ 0 = ap (λ (p : Option ℕ). unwrap_or p 0) e in
+          let z : n ≡ 0 = omega arith in
+          eqb-false n 0 some z)
     ]
 
 -- a run that has no value yet adds nothing

@@ -13,9 +13,9 @@ loop-value-init c =
     record {
       codes = c.in_ok-codes.ensures.items;
       known = c.code_at-code.ensures
-      ∙ ap (λ (o : Option ℕ). unwrap_or o c.last_code-last.result) (c.in_ok-places.ensures 0)
-      ∙ ap (λ n. unwrap_or (place_in table 0) n) c.last_code-last.ensures
-      ∙ code_by_place table bits 0;
+          ∙ ap (λ (o : Option ℕ). unwrap_or o c.last_code-last.result) (c.in_ok-places.ensures 0)
+          ∙ ap (λ n. unwrap_or (place_in table 0) n) c.last_code-last.ensures
+          ∙ code_by_place table bits 0;
     }
 
 pub loop-value-preserved : goal.loop-value-preserved
