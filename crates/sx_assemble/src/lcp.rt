@@ -1,14 +1,18 @@
 //! Dumps of distributors by longest common prefixes.
 
-ghost use Rattle.std.specs.Prelude.{◌≤◌, [], IfOk, MatchResult, length, map};
+ghost use Rattle.std.specs.Prelude.{◌≡◌, ◌≤◌, ◌^◌, [], IfOk, MatchResult, length, map};
+ghost use Rattle.std.specs.List.{AllByRecursion};
 ghost use Rattle.sx_spec_strings.specs.Bits.{key_bits};
 ghost use Rattle.sx_spec_kinds.specs.declared.Kind.TheVariants.{Lcp};
 ghost use Rattle.sx_spec_kinds.specs.Blocks.{block_size};
+ghost use Rattle.sx_spec_kinds.specs.Lcp.{block_prefixes};
 ghost use Rattle.sx_spec_kinds.specs.Pairs.{prefixes_pairs};
-ghost use Rattle.sx_spec.specs.Parts.{least_part, parts_of};
+ghost use Rattle.sx_spec.specs.Parts.{least_part, least_width as least_width_of, parts_of};
 ghost use Rattle.sx_spec.specs.StaticFunction.{part_entries};
-ghost use Rattle.sx_lcp.specs.Parts.{AreParts};
-ghost use Rattle.sx_assemble.specs.Ranking.{IsBlockPlan, IsRanked};
+ghost use Rattle.sx_bits.specs.Pieces.{IsPiece, piece_string};
+ghost use Rattle.sx_static.specs.Answer.{IsDone, entries_of};
+ghost use Rattle.sx_assemble.specs.Assembling.{tries};
+ghost use Rattle.sx_assemble.specs.Ranking.{IsBlockPlan, IsRanked, length_numbers as length_numbers_of};
 ghost use Rattle.sx_assemble.specs.Sectioning.{AreSectionsOf, IsPartDone, StopsPart, StopsParts};
 
 use crate::layout::SectionBuf;
@@ -17,33 +21,57 @@ use crate::parts::{Stop, build_least};
 use crate::signatures::{sign_keys, sign_pieces};
 use crate::{Assembled, finished, header_of};
 use std::alloc::{AllocError, Global};
-use sx_bits::KeyList;
+use sx_bits::{KeyList, Piece};
 use sx_lcp::{LcpParts, lcp_parts};
-use sx_sig::Plan;
+use sx_sig::{Plan, Signature};
 use sx_static::FuncBuf;
 
-/// The function that gives the prefix of each block the number of the block. It is part number
-/// `part`.
+/// The function that gives the prefix of each block, a piece of the keys, the number of the block. It
+/// is part number `part`.
 pub(crate) fn prefixes_function(
     alloc: Global,
     part: u32,
     keys: &KeyList,
-    parts: &LcpParts,
+    pieces: &[Piece],
     plan: &Plan,
     seed: u64,
 ) -> Result<FuncBuf, Stop>
     requires bits { plan.now.sig_bits ≤ 192 }
     requires few { length keys.now.lines ≤ 4194304 }
-    requires parts { AreParts (block_size plan.now.log_bucket) keys.now.lines parts.now }
+    requires pieces { AllByRecursion (IsPiece keys.now.lines) pieces.now }
+    requires prefixes { map (piece_string keys.now.lines) pieces.now
+        ≡ block_prefixes (block_size plan.now.log_bucket) (map key_bits keys.now.lines) }
     ensures built { let b = block_size plan.now.log_bucket in
         let prefixes = least_part (prefixes_pairs b (map key_bits keys.now.lines)) in
         MatchResult result (IsPartDone plan.now seed prefixes)
         (StopsPart part plan.now.method (part_entries plan.now.sig_bits seed prefixes)) }
     ensures narrow { IfOk result (λ f. f.width ≤ 64) }
 {
-    let sigs = sign_pieces(alloc, keys, &parts.prefixes, seed, plan.sig_bits)?;
+    let sigs = sign_pieces(alloc, keys, pieces, seed, plan.sig_bits)?;
     let numbers = numbers_to(alloc, sigs.len() as u32)?;
     build_least(alloc, part, &sigs, &numbers, plan.method)
+}
+
+/// The function of part 0, which gives each key its offset in its block and, times the size of a
+/// block, the length of the block's prefix. The lengths are let go before the function is built.
+fn lengths_function(
+    alloc: Global,
+    sigs: &[Signature],
+    lengths: Vec<u32>,
+    plan: &Plan,
+) -> Result<FuncBuf, Stop>
+    requires bucket { plan.now.log_bucket ≤ 12 }
+    requires numbers { length lengths.items ≡ length sigs.now }
+    requires few { length sigs.now ≤ 2 ^ 27 }
+    ensures built { let numbers = length_numbers_of (block_size plan.now.log_bucket) lengths.items in
+        MatchResult result
+        (IsDone plan.now.method tries (least_width_of numbers) (entries_of sigs.now numbers))
+        (StopsPart 0 plan.now.method (entries_of sigs.now numbers)) }
+    ensures narrow { IfOk result (λ f. f.width ≤ 64) }
+{
+    let numbers = length_numbers(alloc, &lengths, plan.log_bucket)?;
+    drop(lengths);
+    build_least(alloc, 0, sigs, &numbers, plan.method)
 }
 
 /// The sections of the kind `lcp`.
@@ -59,10 +87,9 @@ fn lcp_sections(
         (StopsParts plan.now seed parts) }
 {
     let sigs = sign_keys(alloc, keys, seed, plan.sig_bits)?;
-    let parts = lcp_parts(alloc, keys, plan.log_bucket)?;
-    let numbers = length_numbers(alloc, &parts.lengths, plan.log_bucket)?;
-    let lengths = build_least(alloc, 0, &sigs, &numbers, plan.method)?;
-    let prefixes = prefixes_function(alloc, 1, keys, &parts, plan, seed)?;
+    let LcpParts { lengths, prefixes } = lcp_parts(alloc, keys, plan.log_bucket)?;
+    let lengths = lengths_function(alloc, &sigs, lengths, plan)?;
+    let prefixes = prefixes_function(alloc, 1, keys, &prefixes, plan, seed)?;
     Ok(vec![in alloc;
         SectionBuf::Function(lengths),
         SectionBuf::Function(prefixes),

@@ -2,15 +2,16 @@
 
 ghost use Rattle.std.specs.Prelude.{◌≡◌, ◌<◌, ◌≤◌, ◌^◌, [], All, IfOk, MatchResult, length, map, slice_index};
 ghost use Rattle.sx_spec_kinds.specs.declared.Kind.TheVariants.{Lcp2};
+ghost use Rattle.sx_spec_kinds.specs.Blocks.{block_size};
 ghost use Rattle.sx_spec.specs.Parts.{least_width as least_width_of, parts_of};
 ghost use Rattle.sx_static.specs.Answer.{IsDone, entries_of};
 ghost use Rattle.sx_assemble.specs.Assembling.{tries};
-ghost use Rattle.sx_assemble.specs.Ranking.{IsBlockPlan, IsRanked, signature_at};
+ghost use Rattle.sx_assemble.specs.Ranking.{IsBlockPlan, IsRanked, offset_numbers as offset_numbers_of, signature_at};
 ghost use Rattle.sx_assemble.specs.Sectioning.{AreSectionsOf, StopsPart, StopsParts};
 
 use crate::layout::{SectionBuf, packed_list};
 use crate::lcp::prefixes_function;
-use crate::numbers::{least_width, numbers_at, offset_numbers, widened};
+use crate::numbers::{narrow_width, numbers_at, offset_numbers, widened};
 use crate::parts::{Stop, build_least, build_part};
 use crate::signatures::{sign_keys, signatures_at};
 use crate::{Assembled, finished, header_of};
@@ -20,6 +21,21 @@ use sx_fields::packed_buf::PackedBuf;
 use sx_lcp::{TwoStep, lcp_parts, two_step};
 use sx_sig::{Method, Plan, Signature};
 use sx_static::FuncBuf;
+
+/// The function of part 0, which gives each key its offset in its block.
+fn offsets_function(alloc: Global, sigs: &[Signature], plan: &Plan) -> Result<FuncBuf, Stop>
+    requires bucket { plan.now.log_bucket ≤ 12 }
+    requires few { length sigs.now ≤ 2 ^ 27 }
+    ensures built { let b = block_size plan.now.log_bucket in
+        let numbers = offset_numbers_of b (length sigs.now) in
+        MatchResult result
+        (IsDone plan.now.method tries (least_width_of numbers) (entries_of sigs.now numbers))
+        (StopsPart 0 plan.now.method (entries_of sigs.now numbers)) }
+    ensures narrow { IfOk result (λ f. f.width ≤ 64) }
+{
+    let numbers = offset_numbers(alloc, sigs.len() as u32, plan.log_bucket)?;
+    build_least(alloc, 0, sigs, &numbers, plan.method)
+}
 
 /// The function of part 1, which gives each key its code, in as many bits as a code has.
 fn codes_function(
@@ -69,7 +85,7 @@ fn table_list(alloc: Global, lengths: &[u32], table: &[u32]) -> Result<PackedBuf
     ensures width { IfOk result (λ list. list.width ≡ least_width_of lengths.now) }
     ensures items { IfOk result (λ list. list.items ≡ table.now) }
 {
-    let width = least_width(&widened(alloc, lengths)?);
+    let width = narrow_width(lengths);
     packed_list(alloc, &widened(alloc, table)?, width)
 }
 
@@ -88,11 +104,10 @@ fn lcp2_sections(
     let sigs = sign_keys(alloc, keys, seed, plan.sig_bits)?;
     let parts = lcp_parts(alloc, keys, plan.log_bucket)?;
     let coded = two_step(alloc, &parts.lengths)?;
-    let numbers = offset_numbers(alloc, keys.len(), plan.log_bucket)?;
-    let offsets = build_least(alloc, 0, &sigs, &numbers, plan.method)?;
+    let offsets = offsets_function(alloc, &sigs, plan)?;
     let codes = codes_function(alloc, &sigs, &coded, plan.method)?;
     let escaped = escaped_function(alloc, &sigs, &parts.lengths, &coded.escaped, plan.method)?;
-    let prefixes = prefixes_function(alloc, 3, keys, &parts, plan, seed)?;
+    let prefixes = prefixes_function(alloc, 3, keys, &parts.prefixes, plan, seed)?;
     let table = table_list(alloc, &parts.lengths, &coded.table)?;
     Ok(vec![in alloc;
         SectionBuf::Function(offsets),

@@ -30,6 +30,18 @@ pub(crate) fn least_width(values: &[u64]) -> u32
     digits(greatest)
 }
 
+/// How many bits the greatest of the numbers has, which have 32 bits; 0 where there is none.
+pub(crate) fn narrow_width(numbers: &[u32]) -> u32
+    ensures value { result ≡ least_width_of numbers.now }
+    ensures bound { result ≤ 64 }
+{
+    let mut greatest = 0u32;
+    for number in numbers {
+        greatest = greatest.max(*number);
+    }
+    digits(u64::from(greatest))
+}
+
 /// The numbers from 0 up to before `count`.
 pub(crate) fn numbers_to(alloc: Global, count: u32) -> Result<Vec<u64>, AllocError>
     ensures { IfOk result (λ numbers. numbers.items ≡ range_with_len 0 count) }

@@ -1,4 +1,5 @@
 mod Replies
+mod Runs
 mod CommonPrefixes
 mod BlockParts
 pub mod Costing

@@ -1,5 +1,5 @@
 -- The values of a list in the order of their codes, where a value has its code, and which codes are escaped.
-use Rattle.std.specs.Prelude.{ℕ, ◌+◌, ◌==◌, if◌then◌else◌, List, [], ◌∷◌, ◌++◌, map, Option, Some, None}
+use Rattle.std.specs.Prelude.{ℕ, ◌+◌, ◌==◌, if◌then◌else◌, List, [], ◌∷◌, ◌++◌, map, Option, Some, None, unwrap_or}
 use Rattle.std.specs.List.{position_or_len, list_any}
 use Rattle.std.specs.declared.cmp.Reverse.{Reverse}
 use Rattle.sx_spec_strings.specs.Ordered.{in_order}
@@ -18,6 +18,10 @@ count_at e = e.0.0
 -- a value and its count, the other way round
 abbrev pub ranked_entry : ℕ × ℕ → Reverse ℕ × ℕ
 ranked_entry e = entry_of e.0 e.1
+
+-- a count to which so many are added; no count stays none where nothing is added
+abbrev pub counted_more : (count : Option ℕ) (more : ℕ) → Option ℕ
+counted_more count more = if more == 0 then count else Some (unwrap_or count 0 + more)
 
 -- the different values in the order of their codes, each with its frequency
 unfoldable pub ranking_of : List ℕ → List (Reverse ℕ × ℕ)

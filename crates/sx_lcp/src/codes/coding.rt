@@ -1,6 +1,6 @@
 //! The codes of values by a table, and which of them are escaped.
 
-ghost use Rattle.std.specs.Prelude.{◌≡◌, ℕ, ◌-◌, ◌<◌, ◌≤◌, ◌^◌, ◌==◌, if◌then◌else◌, IfOk, OnOk, length, map, nat_eq};
+ghost use Rattle.std.specs.Prelude.{◌≡◌, ℕ, ◌-◌, ◌<◌, ◌≤◌, ◌^◌, ◌==◌, if◌then◌else◌, IfOk, OnOk, length, map, nat_eq, unwrap_or};
 ghost use Rattle.std.specs.HashMap.{get};
 ghost use Rattle.std.specs.Option.{option_or};
 ghost use Rattle.sx_spec_kinds.specs.TwoStep.{code_of};
@@ -9,7 +9,8 @@ ghost use Rattle.sx_lcp.specs.Rankings.{place_in, numbers_from};
 use std::alloc::{AllocError, Global};
 use std::collections::HashMap;
 
-/// The code of each value, by the table of codes of so many bits, at most 32.
+/// The code of each value, by the table of codes of so many bits, at most 32. Equal values mostly
+/// stand side by side, so the table is asked once for each run of them.
 ///
 /// # Errors
 ///
@@ -27,10 +28,23 @@ pub(super) fn codes_by(
     let last = last_code(bits);
     let places = places(alloc, table)?;
     let mut codes = Vec::with_capacity(alloc, values.len())?;
+    let mut known = 0u32;
+    let mut code = code_at(&places, last, known);
     for value in values {
-        codes.push(places.get(value).copied().unwrap_or(last))?;
+        if *value != known {
+            known = *value;
+            code = code_at(&places, last, known);
+        }
+        codes.push(code)?;
     }
     Ok(codes)
+}
+
+/// The place of a value, or the last code where it has none.
+fn code_at(places: &HashMap<u32, u32>, last: u32, value: u32) -> u32
+    ensures { result ≡ unwrap_or (get nat_eq places.now value) last }
+{
+    places.get(&value).copied().unwrap_or(last)
 }
 
 /// The greatest code of so many bits, at most 32, which the escaped values have.

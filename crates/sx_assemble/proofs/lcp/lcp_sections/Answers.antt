@@ -6,46 +6,44 @@ use Rattle.sx_spec_kinds.specs.Blocks.{block_size}
 use Rattle.sx_spec_kinds.specs.Lcp.{prefix_lens}
 use Rattle.sx_spec_kinds.specs.Pairs.{lengths_pairs}
 use Rattle.sx_spec.specs.declared.Signature.{Signature}
-use Rattle.sx_spec.specs.Parts.{least_width, parts_of}
+use Rattle.sx_spec.specs.Parts.{parts_of}
 use Rattle.sx_assemble.specs.Assembling.{key_signature}
 use Rattle.sx_assemble.specs.Ranking.{length_numbers}
 use Rattle.sx_assemble.specs.Sectioning.{AreSectionsOf}
 use Rattle.sx_assemble.proofs.BuiltDumps.{few_lines}
-use Rattle.sx_assemble.proofs.KeyPairs.{least_of, lengths_are, lengths_count}
+use Rattle.sx_assemble.proofs.CodePairs.{lens_count}
+use Rattle.sx_assemble.proofs.KeyPairs.{least_of, lengths_are}
 use Rattle.sx_assemble.proofs.LcpDumps.{lcp_done, lcp_stops_first, lcp_stops_second}
 use Rattle.sx_assemble.proofs.PartLists.{stops_out}
 use Rattle.sx_assemble.proofs.lcp.lcp_sections.Goals as goal
 
-pub build_least-requires-clause-numbers : goal.build_least-requires-clause-numbers
-build_least-requires-clause-numbers c =
+pub lengths_function-requires-clause-numbers : goal.lengths_function-requires-clause-numbers
+lengths_function-requires-clause-numbers c =
     let lines = c.args.keys.now.lines in
     let plan = c.args.plan.now in
-    let b = block_size plan.log_bucket in
-    let numbered : c.deref-3.result.now ≡ length_numbers b (prefix_lens b (map key_bits lines)) =
-    c.deref-3.ensures.value ∙ c.in_ok-numbers.ensures ∙ ap (length_numbers b) (c.deref.ensures.value ∙ c.in_ok-parts.ensures.lengths) in
-    let sigs : length c.deref-2.result.now ≡ length lines = ap (λ (l : List Signature). length l) (c.deref-2.ensures.value ∙ c.in_ok-sigs.ensures.signed) ∙ length-map lines (key_signature c.args.seed plan.sig_bits) in
-    lengths_count plan.sig_bits c.args.seed lines b c.deref-3.result.now numbered ∙ sym sigs
+    let sigs : length c.deref.result.now ≡ length lines = ap (λ (l : List Signature). length l) (c.deref.ensures.value ∙ c.in_ok-sigs.ensures.signed) ∙ length-map lines (key_signature c.args.seed plan.sig_bits) in
+    ap (λ (l : List ℕ). length l) c.in_ok-lengths.ensures.lengths ∙ lens_count (block_size plan.log_bucket) (map key_bits lines) ∙ length-map lines key_bits ∙ sym sigs
 
-pub build_least-requires-clause-few : goal.build_least-requires-clause-few
-build_least-requires-clause-few c =
+pub lengths_function-requires-clause-few : goal.lengths_function-requires-clause-few
+lengths_function-requires-clause-few c =
     let lines = c.args.keys.now.lines in
     let keys = c.sign_keys.ensures.keys in
-    let sigs : length c.deref-2.result.now ≡ length lines = ap (λ (l : List Signature). length l) (c.deref-2.ensures.value ∙ c.in_ok-sigs.ensures.signed) ∙ length-map lines (key_signature c.args.seed c.args.plan.now.sig_bits) in
+    let sigs : length c.deref.result.now ≡ length lines = ap (λ (l : List Signature). length l) (c.deref.ensures.value ∙ c.in_ok-sigs.ensures.signed) ∙ length-map lines (key_signature c.args.seed c.args.plan.now.sig_bits) in
     let few = few_lines c.args.keys.now.limits lines keys.limits keys.faultless in
     omega arith
 
-pub returns-in_err-lengths : goal.returns-in_err-lengths
-returns-in_err-lengths c =
+pub returns-in_err-lengths-2 : goal.returns-in_err-lengths-2
+returns-in_err-lengths-2 c =
     let lines = c.args.keys.now.lines in
     let plan = c.args.plan.now in
     let b = block_size plan.log_bucket in
-    let numbered : c.deref-3.result.now ≡ length_numbers b (prefix_lens b (map key_bits lines)) =
-    c.deref-3.ensures.value ∙ c.in_ok-numbers.ensures ∙ ap (length_numbers b) (c.deref.ensures.value ∙ c.in_ok-parts.ensures.lengths) in
-    let are = lengths_are plan.sig_bits c.args.seed lines b c.deref-2.result.now c.deref-3.result.now (c.deref-2.ensures.value ∙ c.in_ok-sigs.ensures.signed) numbered in
-    let e = c.in_err-lengths.field-0.0 in
-    stops_out plan lines c.args.seed (parts_of plan 0 lines []) c.from_residual-in_err-lengths.result e
-    (err_from_is_err_and c.from_residual-in_err-lengths.result c.from_residual-in_err-lengths.ensures.1)
-    (lcp_stops_first plan lines c.args.seed c.requires e (least_of plan c.args.seed 0 (lengths_pairs b (map key_bits lines)) c.deref-2.result.now c.deref-3.result.now are (Err e) c.in_err-lengths.ensures.built))
+    let numbers = length_numbers b c.in_ok-lengths.field-0.lengths.items in
+    let numbered : numbers ≡ length_numbers b (prefix_lens b (map key_bits lines)) = ap (length_numbers b) c.in_ok-lengths.ensures.lengths in
+    let are = lengths_are plan.sig_bits c.args.seed lines b c.deref.result.now numbers (c.deref.ensures.value ∙ c.in_ok-sigs.ensures.signed) numbered in
+    let e = c.in_err-lengths-2.field-0.0 in
+    stops_out plan lines c.args.seed (parts_of plan 0 lines []) c.from_residual-in_err-lengths-2.result e
+    (err_from_is_err_and c.from_residual-in_err-lengths-2.result c.from_residual-in_err-lengths-2.ensures.1)
+    (lcp_stops_first plan lines c.args.seed c.requires e (least_of plan c.args.seed 0 (lengths_pairs b (map key_bits lines)) c.deref.result.now numbers are (Err e) c.in_err-lengths-2.ensures.built))
 
 pub prefixes_function-requires-clause-few : goal.prefixes_function-requires-clause-few
 prefixes_function-requires-clause-few c = let keys = c.sign_keys.ensures.keys in few_lines c.args.keys.now.limits c.args.keys.now.lines keys.limits keys.faultless
@@ -55,14 +53,14 @@ returns-in_err-prefixes c =
     let lines = c.args.keys.now.lines in
     let plan = c.args.plan.now in
     let b = block_size plan.log_bucket in
-    let numbered : c.deref-3.result.now ≡ length_numbers b (prefix_lens b (map key_bits lines)) =
-    c.deref-3.ensures.value ∙ c.in_ok-numbers.ensures ∙ ap (length_numbers b) (c.deref.ensures.value ∙ c.in_ok-parts.ensures.lengths) in
-    let are = lengths_are plan.sig_bits c.args.seed lines b c.deref-2.result.now c.deref-3.result.now (c.deref-2.ensures.value ∙ c.in_ok-sigs.ensures.signed) numbered in
-    let f = c.in_ok-lengths.lengths in
+    let numbers = length_numbers b c.in_ok-lengths.field-0.lengths.items in
+    let numbered : numbers ≡ length_numbers b (prefix_lens b (map key_bits lines)) = ap (length_numbers b) c.in_ok-lengths.ensures.lengths in
+    let are = lengths_are plan.sig_bits c.args.seed lines b c.deref.result.now numbers (c.deref.ensures.value ∙ c.in_ok-sigs.ensures.signed) numbered in
+    let f = c.in_ok-lengths-2.lengths in
     let e = c.in_err-prefixes.field-0.0 in
     stops_out plan lines c.args.seed (parts_of plan 0 lines []) c.from_residual-in_err-prefixes.result e
     (err_from_is_err_and c.from_residual-in_err-prefixes.result c.from_residual-in_err-prefixes.ensures.1)
-    (lcp_stops_second plan lines c.args.seed c.requires f e (least_of plan c.args.seed 0 (lengths_pairs b (map key_bits lines)) c.deref-2.result.now c.deref-3.result.now are (Ok f) c.in_ok-lengths.ensures.built) c.in_err-prefixes.ensures.built)
+    (lcp_stops_second plan lines c.args.seed c.requires f e (least_of plan c.args.seed 0 (lengths_pairs b (map key_bits lines)) c.deref.result.now numbers are (Ok f) c.in_ok-lengths-2.ensures.built) c.in_err-prefixes.ensures.built)
 
 pub returns : goal.returns
 returns c =
@@ -71,11 +69,12 @@ returns c =
     let keys = c.sign_keys.ensures.keys in
     let few = few_lines c.args.keys.now.limits lines keys.limits keys.faultless in
     let b = block_size plan.log_bucket in
-    let numbered : c.deref-3.result.now ≡ length_numbers b (prefix_lens b (map key_bits lines)) =
-    c.deref-3.ensures.value ∙ c.in_ok-numbers.ensures ∙ ap (length_numbers b) (c.deref.ensures.value ∙ c.in_ok-parts.ensures.lengths) in
-    let are = lengths_are plan.sig_bits c.args.seed lines b c.deref-2.result.now c.deref-3.result.now (c.deref-2.ensures.value ∙ c.in_ok-sigs.ensures.signed) numbered in
-    let f = c.in_ok-lengths.lengths in
-    let narrow = subst (λ (ns : List ℕ). least_width ns ≤ 64) are.numbers c.build_least.ensures.narrow in
+    let numbers = length_numbers b c.in_ok-lengths.field-0.lengths.items in
+    let numbered : numbers ≡ length_numbers b (prefix_lens b (map key_bits lines)) = ap (length_numbers b) c.in_ok-lengths.ensures.lengths in
+    let are = lengths_are plan.sig_bits c.args.seed lines b c.deref.result.now numbers (c.deref.ensures.value ∙ c.in_ok-sigs.ensures.signed) numbered in
+    let f = c.in_ok-lengths-2.lengths in
+    let done = least_of plan c.args.seed 0 (lengths_pairs b (map key_bits lines)) c.deref.result.now numbers are (Ok f) c.in_ok-lengths-2.ensures.built in
+    let narrow = subst (λ (w : ℕ). w ≤ 64) done.built.width c.in_ok-lengths-2.ensures.narrow in
     subst (AreSectionsOf plan lines c.args.seed (parts_of plan 0 lines [])) (sym c.in_ok-vec.ensures.items)
     (lcp_done plan lines c.args.seed c.requires f c.in_ok-prefixes.prefixes few
-    (least_of plan c.args.seed 0 (lengths_pairs b (map key_bits lines)) c.deref-2.result.now c.deref-3.result.now are (Ok f) c.in_ok-lengths.ensures.built) narrow c.in_ok-prefixes.ensures.built c.in_ok-prefixes.ensures.narrow)
+    done narrow c.in_ok-prefixes.ensures.built c.in_ok-prefixes.ensures.narrow)

@@ -1,14 +1,14 @@
-use Rattle.std.proofs.Common.{◌≡◌, ◌∙◌, ◌%◌, ◌^◌, ◌<◌, ◌≤◌, ℕ, List, [], All, Ok, Err, length, map, ap, subst, sym, arith}
+use Rattle.std.proofs.Common.{◌≡◌, ◌∙◌, ◌^◌, ◌<◌, ◌≤◌, ℕ, List, [], All, Ok, Err, length, map, ap, subst, sym, arith}
 use Rattle.std.proofs.lemmas.List.{length-map}
-use Rattle.std.proofs.lemmas.List.FromFn.{length-map-range_with_len}
 use Rattle.std.proofs.lemmas.Result.{err_from_is_err_and}
 use Rattle.sx_spec_strings.specs.Bits.{key_bits}
 use Rattle.sx_spec_kinds.specs.Blocks.{block_size}
 use Rattle.sx_spec_kinds.specs.Pairs.{offsets_pairs}
 use Rattle.sx_spec_kinds.specs.TwoStep.{two_step_of, width_of}
 use Rattle.sx_spec.specs.declared.Signature.{Signature}
-use Rattle.sx_spec.specs.Parts.{least_width, parts_of}
+use Rattle.sx_spec.specs.Parts.{parts_of}
 use Rattle.sx_lcp.specs.TwoSteps.{two_step_as}
+use Rattle.sx_assemble.specs.Assembling.{key_signature}
 use Rattle.sx_assemble.specs.Ranking.{offset_numbers}
 use Rattle.sx_assemble.specs.Sectioning.{AreSectionsOf}
 use Rattle.sx_assemble.proofs.BuiltDumps.{few_lines}
@@ -32,24 +32,14 @@ two_step-requires c =
     let all = length-map lines key_bits in
     omega arith
 
-pub build_least-requires-clause-numbers : goal.build_least-requires-clause-numbers
-build_least-requires-clause-numbers c =
+pub offsets_function-requires-clause-few : goal.offsets_function-requires-clause-few
+offsets_function-requires-clause-few c =
     let list = c.args.keys.now in
     let lines = list.lines in
-    let plan = c.args.plan.now in
-    let seed = c.args.seed in
     let keys = c.sign_keys.ensures.keys in
     let few = few_lines list.limits lines keys.limits keys.faultless in
-    let sigs = c.in_ok-sigs.sigs.items in
-    let lens = c.in_ok-parts.parts.lengths.items in
-    let t = two_step_as c.in_ok-coded.coded in
-    let signed = c.in_ok-sigs.ensures.signed in
-    let lengths = c.in_ok-parts.ensures.lengths in
-    let two = c.in_ok-coded.ensures ∙ ap two_step_of c.deref.ensures.value in
-    let many = sigs_count plan list seed sigs lens t signed lengths two in
-    let same = ap (λ (l : List Signature). length l) c.deref-2.ensures.value in
-    let numbers : length c.deref-3.result.now ≡ c.len.result = ap (λ (l : List ℕ). length l) (c.deref-3.ensures.value ∙ c.in_ok-numbers.ensures) ∙ length-map-range_with_len (λ (i : ℕ). i % block_size plan.log_bucket) 0 c.len.result in
-    omega (arith, c.len.ensures.value)
+    let as_many : length c.deref-2.result.now ≡ length lines = ap (λ (l : List Signature). length l) (c.deref-2.ensures.value ∙ c.in_ok-sigs.ensures.signed) ∙ length-map lines (key_signature c.args.seed c.args.plan.now.sig_bits) in
+    omega arith
 
 pub returns-in_err-offsets : goal.returns-in_err-offsets
 returns-in_err-offsets c =
@@ -66,13 +56,13 @@ returns-in_err-offsets c =
     let lengths = c.in_ok-parts.ensures.lengths in
     let two = c.in_ok-coded.ensures ∙ ap two_step_of c.deref.ensures.value in
     let pairs = offsets_pairs (block_size plan.log_bucket) (map key_bits lines) in
-    let numbered : c.deref-3.result.now ≡ offset_numbers (block_size plan.log_bucket) (length lines) =
-    c.deref-3.ensures.value ∙ c.in_ok-numbers.ensures ∙ ap (offset_numbers (block_size plan.log_bucket)) c.len.ensures.value in
-    let are = offsets_are plan.sig_bits seed lines (block_size plan.log_bucket) c.deref-2.result.now c.deref-3.result.now (c.deref-2.ensures.value ∙ signed) numbered in
+    let as_many : length c.deref-2.result.now ≡ length lines = ap (λ (l : List Signature). length l) (c.deref-2.ensures.value ∙ signed) ∙ length-map lines (key_signature seed plan.sig_bits) in
+    let numbers = offset_numbers (block_size plan.log_bucket) (length c.deref-2.result.now) in
+    let are = offsets_are plan.sig_bits seed lines (block_size plan.log_bucket) c.deref-2.result.now numbers (c.deref-2.ensures.value ∙ signed) (ap (offset_numbers (block_size plan.log_bucket)) as_many) in
     let e = c.in_err-offsets.field-0.0 in
     stops_out plan lines seed (parts_of plan 0 lines []) c.from_residual-in_err-offsets.result e
     (err_from_is_err_and c.from_residual-in_err-offsets.result c.from_residual-in_err-offsets.ensures.1)
-    (lcp2_stops_first plan lines seed c.requires e (least_of plan seed 0 pairs c.deref-2.result.now c.deref-3.result.now are (Err e) c.in_err-offsets.ensures.built))
+    (lcp2_stops_first plan lines seed c.requires e (least_of plan seed 0 pairs c.deref-2.result.now numbers are (Err e) c.in_err-offsets.ensures.built))
 
 pub codes_function-requires-clause-numbers : goal.codes_function-requires-clause-numbers
 codes_function-requires-clause-numbers c =
@@ -91,7 +81,16 @@ codes_function-requires-clause-numbers c =
     let many = sigs_count plan list seed sigs lens t signed lengths two in
     let all = lens_many plan list seed sigs lens t signed lengths two in
     let count = built_codes_count lens t two in
-    let same = ap (λ (l : List Signature). length l) c.deref-4.ensures.value in
+    let same = ap (λ (l : List Signature). length l) c.deref-3.ensures.value in
+    omega arith
+
+pub codes_function-requires-clause-few : goal.codes_function-requires-clause-few
+codes_function-requires-clause-few c =
+    let list = c.args.keys.now in
+    let lines = list.lines in
+    let keys = c.sign_keys.ensures.keys in
+    let few = few_lines list.limits lines keys.limits keys.faultless in
+    let as_many : length c.deref-3.result.now ≡ length lines = ap (λ (l : List Signature). length l) (c.deref-3.ensures.value ∙ c.in_ok-sigs.ensures.signed) ∙ length-map lines (key_signature c.args.seed c.args.plan.now.sig_bits) in
     omega arith
 
 pub codes_function-requires-clause-fit : goal.codes_function-requires-clause-fit
@@ -142,15 +141,15 @@ returns-in_err-codes c =
     let lengths = c.in_ok-parts.ensures.lengths in
     let two = c.in_ok-coded.ensures ∙ ap two_step_of c.deref.ensures.value in
     let pairs = offsets_pairs (block_size plan.log_bucket) (map key_bits lines) in
-    let numbered : c.deref-3.result.now ≡ offset_numbers (block_size plan.log_bucket) (length lines) =
-    c.deref-3.ensures.value ∙ c.in_ok-numbers.ensures ∙ ap (offset_numbers (block_size plan.log_bucket)) c.len.ensures.value in
-    let are = offsets_are plan.sig_bits seed lines (block_size plan.log_bucket) c.deref-2.result.now c.deref-3.result.now (c.deref-2.ensures.value ∙ signed) numbered in
+    let as_many : length c.deref-2.result.now ≡ length lines = ap (λ (l : List Signature). length l) (c.deref-2.ensures.value ∙ signed) ∙ length-map lines (key_signature seed plan.sig_bits) in
+    let numbers = offset_numbers (block_size plan.log_bucket) (length c.deref-2.result.now) in
+    let are = offsets_are plan.sig_bits seed lines (block_size plan.log_bucket) c.deref-2.result.now numbers (c.deref-2.ensures.value ∙ signed) (ap (offset_numbers (block_size plan.log_bucket)) as_many) in
     let offsets = c.in_ok-offsets.offsets in
-    let offsets_done = least_of plan seed 0 pairs c.deref-2.result.now c.deref-3.result.now are (Ok offsets) c.in_ok-offsets.ensures.built in
+    let offsets_done = least_of plan seed 0 pairs c.deref-2.result.now numbers are (Ok offsets) c.in_ok-offsets.ensures.built in
     let e = c.in_err-codes.field-0.0 in
     stops_out plan lines seed (parts_of plan 0 lines []) c.from_residual-in_err-codes.result e
     (err_from_is_err_and c.from_residual-in_err-codes.result c.from_residual-in_err-codes.ensures.1)
-    (lcp2_stops_second plan lines seed c.requires offsets offsets_done e (codes_of_keys plan list seed sigs lens t signed lengths two (Err e) (given_codes plan 1 t.bits t.codes c.deref-4.result.now sigs c.deref-4.ensures.value (Err e) c.in_err-codes.ensures)))
+    (lcp2_stops_second plan lines seed c.requires offsets offsets_done e (codes_of_keys plan list seed sigs lens t signed lengths two (Err e) (given_codes plan 1 t.bits t.codes c.deref-3.result.now sigs c.deref-3.ensures.value (Err e) c.in_err-codes.ensures)))
 
 pub escaped_function-requires-clause-few : goal.escaped_function-requires-clause-few
 escaped_function-requires-clause-few c =
@@ -168,7 +167,7 @@ escaped_function-requires-clause-few c =
     let two = c.in_ok-coded.ensures ∙ ap two_step_of c.deref.ensures.value in
     let all = lens_many plan list seed sigs lens t signed lengths two in
     let count = built_escaped_count lens t two in
-    let same = ap (λ (l : List ℕ). length l) c.deref-7.ensures.value in
+    let same = ap (λ (l : List ℕ). length l) c.deref-6.ensures.value in
     omega arith
 
 pub escaped_function-requires-clause-signed : goal.escaped_function-requires-clause-signed
@@ -187,11 +186,11 @@ escaped_function-requires-clause-signed c =
     let two = c.in_ok-coded.ensures ∙ ap two_step_of c.deref.ensures.value in
     let many = sigs_count plan list seed sigs lens t signed lengths two in
     let all = lens_many plan list seed sigs lens t signed lengths two in
-    let same = ap (λ (l : List Signature). length l) c.deref-5.ensures.value in
+    let same = ap (λ (l : List Signature). length l) c.deref-4.ensures.value in
     let within = built_escaped_within lens t two in
-    let moved = subst (λ (ps : List ℕ). All (λ i. i < length lens) ps) (sym c.deref-7.ensures.value) within in
-    let count : length lens ≡ length c.deref-5.result.now = omega arith in
-    subst (λ (n : ℕ). All (λ i. i < n) c.deref-7.result.now) count moved
+    let moved = subst (λ (ps : List ℕ). All (λ i. i < length lens) ps) (sym c.deref-6.ensures.value) within in
+    let count : length lens ≡ length c.deref-4.result.now = omega arith in
+    subst (λ (n : ℕ). All (λ i. i < n) c.deref-6.result.now) count moved
 
 pub escaped_function-requires-clause-within : goal.escaped_function-requires-clause-within
 escaped_function-requires-clause-within c =
@@ -208,8 +207,8 @@ escaped_function-requires-clause-within c =
     let lengths = c.in_ok-parts.ensures.lengths in
     let two = c.in_ok-coded.ensures ∙ ap two_step_of c.deref.ensures.value in
     let within = built_escaped_within lens t two in
-    let moved = subst (λ (ps : List ℕ). All (λ i. i < length lens) ps) (sym c.deref-7.ensures.value) within in
-    subst (λ (l : List ℕ). All (λ i. i < length l) c.deref-7.result.now) (sym c.deref-6.ensures.value) moved
+    let moved = subst (λ (ps : List ℕ). All (λ i. i < length lens) ps) (sym c.deref-6.ensures.value) within in
+    subst (λ (l : List ℕ). All (λ i. i < length l) c.deref-6.result.now) (sym c.deref-5.ensures.value) moved
 
 pub returns-in_err-escaped : goal.returns-in_err-escaped
 returns-in_err-escaped c =
@@ -226,17 +225,20 @@ returns-in_err-escaped c =
     let lengths = c.in_ok-parts.ensures.lengths in
     let two = c.in_ok-coded.ensures ∙ ap two_step_of c.deref.ensures.value in
     let pairs = offsets_pairs (block_size plan.log_bucket) (map key_bits lines) in
-    let numbered : c.deref-3.result.now ≡ offset_numbers (block_size plan.log_bucket) (length lines) =
-    c.deref-3.ensures.value ∙ c.in_ok-numbers.ensures ∙ ap (offset_numbers (block_size plan.log_bucket)) c.len.ensures.value in
-    let are = offsets_are plan.sig_bits seed lines (block_size plan.log_bucket) c.deref-2.result.now c.deref-3.result.now (c.deref-2.ensures.value ∙ signed) numbered in
+    let as_many : length c.deref-2.result.now ≡ length lines = ap (λ (l : List Signature). length l) (c.deref-2.ensures.value ∙ signed) ∙ length-map lines (key_signature seed plan.sig_bits) in
+    let numbers = offset_numbers (block_size plan.log_bucket) (length c.deref-2.result.now) in
+    let are = offsets_are plan.sig_bits seed lines (block_size plan.log_bucket) c.deref-2.result.now numbers (c.deref-2.ensures.value ∙ signed) (ap (offset_numbers (block_size plan.log_bucket)) as_many) in
     let offsets = c.in_ok-offsets.offsets in
-    let offsets_done = least_of plan seed 0 pairs c.deref-2.result.now c.deref-3.result.now are (Ok offsets) c.in_ok-offsets.ensures.built in
+    let offsets_done = least_of plan seed 0 pairs c.deref-2.result.now numbers are (Ok offsets) c.in_ok-offsets.ensures.built in
     let codes = c.in_ok-codes.codes in
-    let codes_done = codes_of_keys plan list seed sigs lens t signed lengths two (Ok codes) (given_codes plan 1 t.bits t.codes c.deref-4.result.now sigs c.deref-4.ensures.value (Ok codes) c.in_ok-codes.ensures) in
+    let codes_done = codes_of_keys plan list seed sigs lens t signed lengths two (Ok codes) (given_codes plan 1 t.bits t.codes c.deref-3.result.now sigs c.deref-3.ensures.value (Ok codes) c.in_ok-codes.ensures) in
     let e = c.in_err-escaped.field-0.0 in
     stops_out plan lines seed (parts_of plan 0 lines []) c.from_residual-in_err-escaped.result e
     (err_from_is_err_and c.from_residual-in_err-escaped.result c.from_residual-in_err-escaped.ensures.1)
-    (lcp2_stops_third plan lines seed c.requires offsets offsets_done codes codes_done e (escaped_of_keys plan list seed sigs lens t signed lengths two (Err e) (given_escaped plan 2 c.deref-5.result.now sigs c.deref-6.result.now lens c.deref-7.result.now t.escaped c.deref-5.ensures.value c.deref-6.ensures.value c.deref-7.ensures.value (Err e) c.in_err-escaped.ensures.built)))
+    (lcp2_stops_third plan lines seed c.requires offsets offsets_done codes codes_done e (escaped_of_keys plan list seed sigs lens t signed lengths two (Err e) (given_escaped plan 2 c.deref-4.result.now sigs c.deref-5.result.now lens c.deref-6.result.now t.escaped c.deref-4.ensures.value c.deref-5.ensures.value c.deref-6.ensures.value (Err e) c.in_err-escaped.ensures.built)))
+
+pub prefixes_function-requires-clause-few : goal.prefixes_function-requires-clause-few
+prefixes_function-requires-clause-few c = let keys = c.sign_keys.ensures.keys in few_lines c.args.keys.now.limits c.args.keys.now.lines keys.limits keys.faultless
 
 pub returns-in_err-prefixes : goal.returns-in_err-prefixes
 returns-in_err-prefixes c =
@@ -253,15 +255,15 @@ returns-in_err-prefixes c =
     let lengths = c.in_ok-parts.ensures.lengths in
     let two = c.in_ok-coded.ensures ∙ ap two_step_of c.deref.ensures.value in
     let pairs = offsets_pairs (block_size plan.log_bucket) (map key_bits lines) in
-    let numbered : c.deref-3.result.now ≡ offset_numbers (block_size plan.log_bucket) (length lines) =
-    c.deref-3.ensures.value ∙ c.in_ok-numbers.ensures ∙ ap (offset_numbers (block_size plan.log_bucket)) c.len.ensures.value in
-    let are = offsets_are plan.sig_bits seed lines (block_size plan.log_bucket) c.deref-2.result.now c.deref-3.result.now (c.deref-2.ensures.value ∙ signed) numbered in
+    let as_many : length c.deref-2.result.now ≡ length lines = ap (λ (l : List Signature). length l) (c.deref-2.ensures.value ∙ signed) ∙ length-map lines (key_signature seed plan.sig_bits) in
+    let numbers = offset_numbers (block_size plan.log_bucket) (length c.deref-2.result.now) in
+    let are = offsets_are plan.sig_bits seed lines (block_size plan.log_bucket) c.deref-2.result.now numbers (c.deref-2.ensures.value ∙ signed) (ap (offset_numbers (block_size plan.log_bucket)) as_many) in
     let offsets = c.in_ok-offsets.offsets in
-    let offsets_done = least_of plan seed 0 pairs c.deref-2.result.now c.deref-3.result.now are (Ok offsets) c.in_ok-offsets.ensures.built in
+    let offsets_done = least_of plan seed 0 pairs c.deref-2.result.now numbers are (Ok offsets) c.in_ok-offsets.ensures.built in
     let codes = c.in_ok-codes.codes in
-    let codes_done = codes_of_keys plan list seed sigs lens t signed lengths two (Ok codes) (given_codes plan 1 t.bits t.codes c.deref-4.result.now sigs c.deref-4.ensures.value (Ok codes) c.in_ok-codes.ensures) in
+    let codes_done = codes_of_keys plan list seed sigs lens t signed lengths two (Ok codes) (given_codes plan 1 t.bits t.codes c.deref-3.result.now sigs c.deref-3.ensures.value (Ok codes) c.in_ok-codes.ensures) in
     let escaped = c.in_ok-escaped.escaped in
-    let escaped_done = escaped_of_keys plan list seed sigs lens t signed lengths two (Ok escaped) (given_escaped plan 2 c.deref-5.result.now sigs c.deref-6.result.now lens c.deref-7.result.now t.escaped c.deref-5.ensures.value c.deref-6.ensures.value c.deref-7.ensures.value (Ok escaped) c.in_ok-escaped.ensures.built) in
+    let escaped_done = escaped_of_keys plan list seed sigs lens t signed lengths two (Ok escaped) (given_escaped plan 2 c.deref-4.result.now sigs c.deref-5.result.now lens c.deref-6.result.now t.escaped c.deref-4.ensures.value c.deref-5.ensures.value c.deref-6.ensures.value (Ok escaped) c.in_ok-escaped.ensures.built) in
     let e = c.in_err-prefixes.field-0.0 in
     stops_out plan lines seed (parts_of plan 0 lines []) c.from_residual-in_err-prefixes.result e
     (err_from_is_err_and c.from_residual-in_err-prefixes.result c.from_residual-in_err-prefixes.ensures.1)
@@ -319,17 +321,17 @@ returns c =
     let lengths = c.in_ok-parts.ensures.lengths in
     let two = c.in_ok-coded.ensures ∙ ap two_step_of c.deref.ensures.value in
     let pairs = offsets_pairs (block_size plan.log_bucket) (map key_bits lines) in
-    let numbered : c.deref-3.result.now ≡ offset_numbers (block_size plan.log_bucket) (length lines) =
-    c.deref-3.ensures.value ∙ c.in_ok-numbers.ensures ∙ ap (offset_numbers (block_size plan.log_bucket)) c.len.ensures.value in
-    let are = offsets_are plan.sig_bits seed lines (block_size plan.log_bucket) c.deref-2.result.now c.deref-3.result.now (c.deref-2.ensures.value ∙ signed) numbered in
+    let as_many : length c.deref-2.result.now ≡ length lines = ap (λ (l : List Signature). length l) (c.deref-2.ensures.value ∙ signed) ∙ length-map lines (key_signature seed plan.sig_bits) in
+    let numbers = offset_numbers (block_size plan.log_bucket) (length c.deref-2.result.now) in
+    let are = offsets_are plan.sig_bits seed lines (block_size plan.log_bucket) c.deref-2.result.now numbers (c.deref-2.ensures.value ∙ signed) (ap (offset_numbers (block_size plan.log_bucket)) as_many) in
     let offsets = c.in_ok-offsets.offsets in
-    let offsets_done = least_of plan seed 0 pairs c.deref-2.result.now c.deref-3.result.now are (Ok offsets) c.in_ok-offsets.ensures.built in
+    let offsets_done = least_of plan seed 0 pairs c.deref-2.result.now numbers are (Ok offsets) c.in_ok-offsets.ensures.built in
     let codes = c.in_ok-codes.codes in
-    let codes_done = codes_of_keys plan list seed sigs lens t signed lengths two (Ok codes) (given_codes plan 1 t.bits t.codes c.deref-4.result.now sigs c.deref-4.ensures.value (Ok codes) c.in_ok-codes.ensures) in
+    let codes_done = codes_of_keys plan list seed sigs lens t signed lengths two (Ok codes) (given_codes plan 1 t.bits t.codes c.deref-3.result.now sigs c.deref-3.ensures.value (Ok codes) c.in_ok-codes.ensures) in
     let escaped = c.in_ok-escaped.escaped in
-    let escaped_done = escaped_of_keys plan list seed sigs lens t signed lengths two (Ok escaped) (given_escaped plan 2 c.deref-5.result.now sigs c.deref-6.result.now lens c.deref-7.result.now t.escaped c.deref-5.ensures.value c.deref-6.ensures.value c.deref-7.ensures.value (Ok escaped) c.in_ok-escaped.ensures.built) in
+    let escaped_done = escaped_of_keys plan list seed sigs lens t signed lengths two (Ok escaped) (given_escaped plan 2 c.deref-4.result.now sigs c.deref-5.result.now lens c.deref-6.result.now t.escaped c.deref-4.ensures.value c.deref-5.ensures.value c.deref-6.ensures.value (Ok escaped) c.in_ok-escaped.ensures.built) in
     let table = c.in_ok-table.table in
-    let narrow_offsets = subst (λ (ns : List ℕ). least_width ns ≤ 64) are.numbers c.build_least.ensures.narrow in
+    let narrow_offsets = subst (λ (w : ℕ). w ≤ 64) offsets_done.built.width c.in_ok-offsets.ensures.narrow in
     let wide : table.width ≡ width_of lens = c.in_ok-table.ensures.width ∙ ap width_of c.deref-8.ensures.value in
     let listed : table.items ≡ t.table = c.in_ok-table.ensures.items ∙ c.deref-9.ensures.value in
     let thin = width_narrow plan list seed sigs lens t signed lengths two keys c.requires.buckets in
