@@ -1,6 +1,7 @@
 pub mod Pieces
 pub mod Openings
 pub mod Replies
+pub mod SumsOnes
 pub mod Sections
 pub mod Showing
 pub mod ShownPlaces

@@ -5,26 +5,28 @@ use Rattle.std.proofs.lemmas.Bool.{eq-eqb}
 use Rattle.sx_fields.specs.declared.bank.WordBank.{Ghosts}
 use Rattle.sx_spec_kinds.specs.Blocks.{block_size}
 use Rattle.sx_spec_kinds.specs.declared.Kind.{Kind}
-use Rattle.sx_spec_kinds.specs.declared.Kind.TheVariants.{Lcp, Lcp2}
+use Rattle.sx_spec_kinds.specs.declared.Kind.TheVariants.{Lcp, Lcp2, Hollow}
+use Rattle.sx_spec_kinds.specs.Hollow.{walk_of}
 use Rattle.sx_spec_kinds.specs.Lcp.{lcp_reply, lcp2_reply}
 use Rattle.sx_spec_kinds.specs.Reads.{reads_of}
 use Rattle.sx_spec_kinds.specs.Signed.{signed_place}
 use Rattle.sx_spec_strings.specs.Bits.{Bits, key_bits, tagged}
 use Rattle.sx_spec.specs.declared.Signature.{Signature}
 use Rattle.sx_spec.specs.Layout.{Header as HeaderOf, header_of}
-use Rattle.sx_spec.specs.Reply.{answer_of, kept_numbers, kind_reply, reads, reply, section_at, sign, signatures_in, top_bits}
+use Rattle.sx_spec.specs.Reply.{answer_of, gaps, kept_numbers, kind_reply, reads, reply, section_at, sign, signatures_in, top_bits}
 use Rattle.sx_spec.specs.Signature.{signature}
 use Rattle.sx_spec.specs.StaticFunction.{value_of}
 use Rattle.sx_static.specs.declared.view.FuncView.{FuncView}
 use Rattle.sx_lcp.specs.declared.lcp.LcpView.{LcpView}
 use Rattle.sx_lcp.specs.declared.lcp2.Lcp2View.{Lcp2View}
+use Rattle.sx_hollow.specs.declared.view.HollowView.{HollowView}
 use Rattle.sx_lcp.specs.Views.{answers_by}
 use Rattle.sx_sections.specs.declared.header.Header.{Header}
 use Rattle.sx_sections.specs.declared.place.Place.{Place}
 use Rattle.sx_fields.specs.declared.packed.Packed.{Packed}
 use Rattle.sx_spec.specs.Fields.{fields}
 use Rattle.sx_dump.specs.Opening.{IsOpened, dump_in}
-use Rattle.sx_dump.specs.Viewing.{IsLcp2View, IsLcpView, ReadsFunction}
+use Rattle.sx_dump.specs.Viewing.{IsHollowView, IsLcp2View, IsLcpView, ReadsFunction, sums_by}
 use Rattle.sx_dump.proofs.Sections.{unsigned}
 
 module _ (words : List ℕ) (h : Header) (places : List Place) (is : IsOpened words h places) (kind : Kind) (same : (header_of words).plan.kind ≡ kind) where
@@ -75,3 +77,11 @@ module _ (words : List ℕ) (h : Header) (places : List Place) (is : IsOpened wo
       (λ j. lcp2_reply (view.keys j) (block_size (view.bucket j)) (answers_are 0 v.offsets view.offsets j) (answers_are 1 v.codes view.codes j) (view.table.numbers j)
       (answers_are 3 v.escaped view.escaped j) (answers_are 4 v.prefixes view.prefixes j) (of_line j))
       ∙ sym (reply_is words h places is Lcp2 view.kind line)
+
+-- ---- by hollow tries
+
+pub hollow_reply_is : (words : List ℕ) (h : Header) (places : List Place) → IsOpened words h places → {B : Type 0} {bank_of : Ghosts B} (v : HollowView B bank_of) → IsHollowView words v
+    → (line : List ℕ) (bits : Bits) → bits ≡ key_bits line → walk_of (gaps (sums_by v.left)) (gaps (sums_by v.skip)) v.keys bits ≡ reply (dump_in words) line
+hollow_reply_is words h places is v view line bits of_line =
+    (λ j. walk_of (gaps (view.lefts.numbers j)) (gaps (view.skips.numbers j)) (view.keys j) (of_line j))
+    ∙ sym (reply_is words h places is Hollow view.kind line)

@@ -1,27 +1,30 @@
 -- Which sections the words of a dump hold, by its kind, and where they stand.
-use Rattle.std.proofs.Common.{◌≡◌, ℕ, zero, suc, ◌-◌, ◌^◌, ◌≤◌, Bool, true, false, List, [], ◌∷◌, ◌++◌, length, map, drop, codes, Option, Some, None, Result, Ok, Err, refl, sym, ap, subst, ◌∙◌, arith, append_assoc, append-nil}
+use Rattle.std.proofs.Common.{◌≡◌, ℕ, zero, suc, ◌+◌, ◌-◌, ◌^◌, ◌<◌, ◌≤◌, Bool, true, false, List, [], ◌∷◌, ◌++◌, length, map, drop, codes, Option, Some, None, Result, Ok, Err, refl, sym, ap, subst, ◌∙◌, arith, append_assoc, append-nil}
 use Rattle.std.specs.Prelude.{◌==◌, ⊤, nat_le, slice_get, slice_index, slice_index_or, if◌then◌else◌}
 use Rattle.std.specs.Int.{is_in_range}
 use Rattle.std.specs.Result.{result_unwrap_or}
-use Rattle.std.proofs.lemmas.Bool.{and_parts, eq-eqb, leb-true}
+use Rattle.std.proofs.lemmas.Bool.{and_parts, eq-eqb, eqb-true, leb-true}
 use Rattle.std.proofs.lemmas.List.{length-map}
 use Rattle.std.proofs.lemmas.Option.{get_or_from_slice_get}
+use Rattle.sx_ef.proofs.Numbers.{length-sums}
+use Rattle.sx_ef.specs.declared.section.Sums.{Sums as SumsPlace}
 use Rattle.sx_fields.specs.declared.section.Section.{Section as Packed}
 use Rattle.sx_fields.proofs.Places.{length-fields}
 use Rattle.sx_spec_kinds.specs.declared.Kind.{Kind}
-use Rattle.sx_spec_kinds.specs.declared.Kind.TheVariants.{Func, Lcp, Lcp2}
+use Rattle.sx_spec_kinds.specs.declared.Kind.TheVariants.{Func, Lcp, Lcp2, Hollow}
 use Rattle.sx_spec_strings.specs.First.{first_failing}
 use Rattle.sx_spec.specs.Kinds.{bucket_count}
-use Rattle.sx_spec.specs.Layout.{Header as HeaderOf, Section, SectionRule, Slot, corrections_of, corrections_section, exact_list, function_checks, function_of, function_section, header_of, item_words, kind_slots, last_section, list_checks, list_of, list_section, section_checks, section_of, section_size, section_width, sections_in, slots, sums_of, sums_section}
+use Rattle.sx_spec.specs.Layout.{Header as HeaderOf, Section, SectionRule, Slot, are_sums, corrections_of, corrections_section, exact_list, function_checks, function_of, function_section, header_of, item_words, kind_slots, last_section, list_checks, list_of, list_section, section_checks, section_of, section_size, section_width, sections_in, slots, sums_checks, sums_low, sums_numbers, sums_of, sums_section, sums_upper, sums_upper_bits}
 use Rattle.sx_spec.specs.Reply.{function_in, numbers_in, section_at as section_of_dump}
 use Rattle.sx_spec_strings.proofs.Lists.{all_true}
 use Rattle.sx_static.specs.Viewing.{viewed}
-use Rattle.sx_spec.specs.Fields.{fields}
+use Rattle.sx_spec.specs.Fields.{fields, low_width, ones_of, words_number}
 use Rattle.sx_sections.specs.declared.header.Header.{Header}
 use Rattle.sx_sections.specs.declared.place.Place.{Place}
 use Rattle.sx_sections.specs.declared.place.Place.TheVariants.{Function, List as ListPlace, Sums, Corrections}
 use Rattle.sx_sections.specs.Places.{section_at}
-use Rattle.sx_dump.specs.Opening.{IsFunctionAt, IsListAt, IsOpened, dump_in, sections_read}
+use Rattle.sx_dump.specs.Opening.{IsFunctionAt, IsListAt, IsOpened, IsSumsAt, dump_in, sections_read}
+use Rattle.sx_dump.specs.Showing.{sums_read}
 
 -- ---- lists
 
@@ -47,7 +50,7 @@ IsBetween low high n = (low ≤ n) × (n ≤ high)
 abbrev pub FitsRule : SectionRule → Section → Type 0
 FitsRule (function_of least most low high) (function_section f) = IsBetween least most f.pairs × IsBetween low high f.width
 FitsRule (list_of least most low high) (list_section width items) = IsBetween least most (length items) × IsBetween low high width
-FitsRule (sums_of count) (sums_section items) = ⊤
+FitsRule (sums_of count) (sums_section items) = length items ≡ count
 FitsRule (corrections_of most) (corrections_section sigs) = ⊤
 FitsRule _ _ = ⊥
 
@@ -55,6 +58,17 @@ between : (low high n : ℕ) → is_in_range low high n ≡ true → IsBetween l
 between low high n test =
     let both = and_parts (nat_le low n) (nat_le n high) test in
     (leb-true low n both.0, leb-true n high both.1)
+
+-- Elias-Fano lists that pass have as many numbers as they say
+sums_count : (words : List ℕ) → are_sums words ≡ true → length (sums_numbers words) ≡ slice_index words 0
+sums_count words passes =
+    let count = slice_index words 0 in
+    let l = low_width count (slice_index words 1) in
+    let ones = ones_of (sums_upper_bits words) (words_number (sums_upper words)) in
+    let lows = fields l count (sums_low words) in
+    let many : length ones ≡ count = eqb-true (length ones) count (and_parts (length ones == count) _ passes).0 in
+    let size : length lows ≡ count = length-fields l count (sums_low words) in
+    length-sums 0 l ones lows (omega arith) ∙ many
 
 -- a section that passed its checks fits its rule
 rule_fits : (rule : SectionRule) (words : List ℕ) → first_failing (section_checks rule words) ≡ None → FitsRule rule (section_of rule words)
@@ -65,7 +79,9 @@ rule_fits (list_of least most low high) words passes =
     let rows = all_true (list_checks least most low high words) passes in
     let many : length (fields (slice_index words 1) (slice_index words 0) (item_words words)) ≡ slice_index words 0 = length-fields (slice_index words 1) (slice_index words 0) (item_words words) in
     (subst (IsBetween least most) (sym many) (between least most (slice_index words 0) rows.1.0), between low high (slice_index words 1) rows.1.1.0)
-rule_fits (sums_of count) words passes = tt
+rule_fits (sums_of count) words passes =
+    let rows = all_true (sums_checks count words) passes in
+    sums_count words rows.1.1.1.1.1.0 ∙ eqb-true (slice_index words 0) count rows.1.0
 rule_fits (corrections_of most) words passes = tt
 
 -- ---- sections by their slots
@@ -135,6 +151,16 @@ abbrev pub IsNarrowList : ℕ → Section → Type 0
 IsNarrowList high (list_section width items) = width ≤ high
 IsNarrowList high _ = ⊥
 
+-- an Elias-Fano list of so many numbers
+abbrev pub IsSumsOf : ℕ → Section → Type 0
+IsSumsOf count x = FitsRule (sums_of count) x
+
+sums_length : (count : ℕ) (x : Section) → IsSumsOf count x → length (numbers_in x) ≡ count
+sums_length count (function_section f) fit = absurd fit
+sums_length count (list_section width items) fit = absurd fit
+sums_length count (sums_section items) fit = fit
+sums_length count (corrections_section sigs) fit = absurd fit
+
 narrow_list : (least most low high : ℕ) (x : Section) → FitsRule (list_of least most low high) x → IsNarrowList high x
 narrow_list least most low high (function_section f) fit = absurd fit
 narrow_list least most low high (list_section width items) fit = fit.1.1
@@ -183,6 +209,17 @@ list_place words (p ∷ places) (suc i) high fit =
     let later = list_place words places i high fit in
     record { section = later.section; there = later.there }
 
+-- where an Elias-Fano list of some numbers stands
+sums_place : (words : List ℕ) (places : List Place) (i count : ℕ) → 0 < count → IsSumsOf count (slice_index_or (map (section_at words) places) i (sums_section [])) → IsSumsAt places i
+sums_place words [] i count some fit = absurd (let none : 0 ≡ count = fit in omega arith)
+sums_place words (Function s ∷ places) zero count some fit = absurd fit
+sums_place words (ListPlace s ∷ places) zero count some fit = absurd fit
+sums_place words (Sums s ∷ places) zero count some fit = record { section = s; there = refl }
+sums_place words (Corrections s ∷ places) zero count some fit = absurd fit
+sums_place words (p ∷ places) (suc i) count some fit =
+    let later = sums_place words places i count some fit in
+    record { section = later.section; there = later.there }
+
 -- what was read of a place
 pub place_read : (places read : List Place) (i : ℕ) (p q d : Place) → read ≡ places → slice_get places i ≡ Some p → slice_index_or read i d ≡ q → slice_get places i ≡ Some q
 place_read places read i p q d same there is =
@@ -225,6 +262,10 @@ module _ (words : List ℕ) (h : Header) (places : List Place) (is : IsOpened wo
   -- the numbers of a list there are those of section i
   pub numbers_are : (i : ℕ) (s : Packed) → slice_get places i ≡ Some (ListPlace s) → fields s.width s.count (drop s.body words) ≡ numbers_in (section_of_dump (dump_in words) i)
   numbers_are i s there = sym (ap numbers_in (section_is i (ListPlace s) there))
+
+  -- and so are those of an Elias-Fano list
+  pub sums_are : (i : ℕ) (s : SumsPlace) → slice_get places i ≡ Some (Sums s) → sums_read words s ≡ numbers_in (section_of_dump (dump_in words) i)
+  sums_are i s there = sym (ap numbers_in (section_is i (Sums s) there))
 
   -- the kind is that of the words
   pub kind_is : (kind : Kind) → h.plan.kind ≡ kind → head.plan.kind ≡ kind
@@ -273,6 +314,14 @@ module _ (words : List ℕ) (h : Header) (places : List Place) (is : IsOpened wo
   pub lcp2_prefixes : head.plan.kind ≡ Lcp2 → IsFunctionOf (bucket_count head.plan head.keys) (bucket_count head.plan head.keys) 0 32 (slice_index_or found 4 (sums_section []))
   lcp2_prefixes same = function_in_slot Lcp2 4 (codes "prefixes") (bucket_count head.plan head.keys) (bucket_count head.plan head.keys) 0 32 same refl
 
+  pub hollow_left : head.plan.kind ≡ Hollow → IsSumsOf (head.keys - 1 + 1) (slice_index_or found 0 (sums_section []))
+  hollow_left same =
+      slot_gives (IsSumsOf (head.keys - 1 + 1)) Hollow 0 (record { name = codes "left"; rule = λ _. sums_of (head.keys - 1 + 1) }) same refl (λ b x fit. fit)
+
+  pub hollow_skip : head.plan.kind ≡ Hollow → IsSumsOf (head.keys - 1 + 1) (slice_index_or found 1 (sums_section []))
+  hollow_skip same =
+      slot_gives (IsSumsOf (head.keys - 1 + 1)) Hollow 1 (record { name = codes "skip"; rule = λ _. sums_of (head.keys - 1 + 1) }) same refl (λ b x fit. fit)
+
   -- ---- what such a row says
 
   -- where its function stands
@@ -282,6 +331,16 @@ module _ (words : List ℕ) (h : Header) (places : List Place) (is : IsOpened wo
   -- and where its list does
   pub list_there : (i high : ℕ) → IsNarrowList high (slice_index_or found i (sums_section [])) → IsListAt places i
   list_there i high row = list_place words places i high row
+
+  -- and where its Elias-Fano list does
+  pub sums_there : (i count : ℕ) → 0 < count → IsSumsOf count (slice_index_or found i (sums_section [])) → IsSumsAt places i
+  sums_there i count some row = sums_place words places i count some row
+
+  -- how many numbers that list has
+  pub sums_count_there : (i count : ℕ) → IsSumsOf count (slice_index_or found i (sums_section [])) → length (numbers_in (section_of_dump (dump_in words) i)) ≡ count
+  sums_count_there i count row =
+      let same : section_of_dump (dump_in words) i ≡ slice_index_or found i (sums_section []) = ap (λ (xs : List Section). slice_index_or xs i (sums_section [])) sections_are in
+      ap (λ (x : Section). length (numbers_in x)) same ∙ sums_length count (slice_index_or found i (sums_section [])) row
 
   -- how many pairs that function has, and how wide it is
   pub bounds_there : (i least most low high : ℕ) → IsFunctionOf least most low high (slice_index_or found i (sums_section []))

@@ -11,6 +11,7 @@ use Rattle.sx_spec.specs.Layout.{Header, Section, SectionRule, Slot, corrections
 use Rattle.sx_spec.specs.Show.{section_text}
 use Rattle.sx_spec.specs.StaticFunction.{Function}
 use Rattle.sx_static.specs.Viewing.{viewed}
+use Rattle.sx_ef.specs.declared.section.Sums.{Sums as SumsPlace}
 use Rattle.sx_fields.specs.declared.section.Section.{Section as Packed}
 use Rattle.sx_spec.specs.Fields.{fields}
 use Rattle.sx_sections.specs.declared.name.SectionName.{SectionName}
@@ -18,28 +19,28 @@ use Rattle.sx_sections.specs.declared.place.Place.{Place}
 use Rattle.sx_spec_program.specs.Program.{sux_offer}
 use Rattle.sx_sections.specs.declared.place.Place.TheVariants.{Function as FunctionPlace, List as ListPlace, Sums, Corrections}
 use Rattle.sx_sections.specs.declared.rule.Slot.{Slot as NamedSlot}
-use Rattle.sx_sections.specs.Lines.{chunk_line, entry_line, function_line, list_line}
+use Rattle.sx_sections.specs.Lines.{chunk_line, entry_line, function_line, list_line, sums_line}
 use Rattle.sx_sections.specs.Names.{name_text}
 use Rattle.sx_sections.specs.Places.{Stands, section_at}
 use Rattle.sx_sections.specs.Rules.{slot_as}
 use Rattle.sx_sections.specs.declared.header.Header.{Header as HeaderBy}
 use Rattle.sx_sections.specs.Offers.{is_offered}
 use Rattle.sx_dump.specs.Opening.{AllStand, IsOpened, sections_read}
-use Rattle.sx_dump.specs.Showing.{IsShownPlace, function_lines, list_lines, place_lines, places_lines}
+use Rattle.sx_dump.specs.Showing.{IsShownPlace, function_lines, list_lines, place_lines, places_lines, sums_lines, sums_read}
 
 -- ---- functions and lists
 
--- the rule is a function's or a list's
+-- the rule is that of a function, or of a list of either sort
 abbrev IsShownRule : SectionRule → Type 0
 IsShownRule (function_of least most low high) = ⊤
 IsShownRule (list_of least most low high) = ⊤
-IsShownRule (sums_of count) = ⊥
+IsShownRule (sums_of count) = ⊤
 IsShownRule (corrections_of most) = ⊥
 
 abbrev IsShownSection : Section → Type 0
 IsShownSection (function_section f) = ⊤
 IsShownSection (list_section width items) = ⊤
-IsShownSection (sums_section items) = ⊥
+IsShownSection (sums_section items) = ⊤
 IsShownSection (corrections_section sigs) = ⊥
 
 -- after any sections, the rules are those
@@ -50,7 +51,7 @@ AreShownSlots (s ∷ rest) = ((before : List Section) → IsShownRule (s.rule be
 section_shown : (rule : SectionRule) (words : List ℕ) → IsShownRule rule → IsShownSection (section_of rule words)
 section_shown (function_of least most low high) words is = tt
 section_shown (list_of least most low high) words is = tt
-section_shown (sums_of count) words is = is
+section_shown (sums_of count) words is = tt
 section_shown (corrections_of most) words is = is
 
 one_more : (xs : List Section) (x : Section) → AllByRecursion IsShownSection xs → IsShownSection x → AllByRecursion IsShownSection (xs ++ x ∷ [])
@@ -85,7 +86,7 @@ at_places : (words : List ℕ) (places : List Place) → AllByRecursion IsShownS
 at_places words [] all = tt
 at_places words (FunctionPlace s ∷ places) all = (tt, at_places words places all.1)
 at_places words (ListPlace s ∷ places) all = (tt, at_places words places all.1)
-at_places words (Sums s ∷ places) all = absurd all.0
+at_places words (Sums s ∷ places) all = (tt, at_places words places all.1)
 at_places words (Corrections s ∷ places) all = absurd all.0
 
 -- a kind whose sections are functions and lists
@@ -93,7 +94,7 @@ abbrev IsShownKind : Kind → Type 0
 IsShownKind Func = ⊤
 IsShownKind Lcp = ⊤
 IsShownKind Lcp2 = ⊤
-IsShownKind Hollow = ⊥
+IsShownKind Hollow = ⊤
 IsShownKind HollowDist = ⊥
 IsShownKind Zfast = ⊥
 
@@ -110,7 +111,7 @@ kind_shown : (kind : Kind) (h : Header) → IsShownKind kind → AreShownSlots (
 kind_shown Func h is = ((λ before. tt), tt)
 kind_shown Lcp h is = ((λ before. tt), ((λ before. tt), tt))
 kind_shown Lcp2 h is = ((λ before. tt), ((λ before. tt), ((λ before. tt), ((λ before. tt), ((λ before. tt), tt)))))
-kind_shown Hollow h is = absurd is
+kind_shown Hollow h is = ((λ before. tt), ((λ before. tt), tt))
 kind_shown HollowDist h is = absurd is
 kind_shown Zfast h is = absurd is
 
@@ -119,7 +120,7 @@ offered_shown : (kind : Kind) → is_offered sux_offer.kinds kind ≡ true → I
 offered_shown Func is = tt
 offered_shown Lcp is = tt
 offered_shown Lcp2 is = tt
-offered_shown Hollow is = absurd cc
+offered_shown Hollow is = tt
 offered_shown HollowDist is = absurd cc
 offered_shown Zfast is = absurd cc
 
@@ -154,6 +155,11 @@ function_is words name place s f at is =
 pub list_is : (words : List ℕ) (name : SectionName) (place : Place) (s : Packed) → place ≡ ListPlace s → list_lines name s.width (fields s.width s.count (drop s.body words)) ≡ place_lines words name place
 unfolding list_lines place_lines list_line entry_line
 list_is words name place s at = ap (λ (p : Place). section_text (name_text name) (section_at words p)) (sym at)
+
+-- those of an Elias-Fano list
+pub sums_is : (words : List ℕ) (name : SectionName) (place : Place) (s : SumsPlace) → place ≡ Sums s → sums_lines name (sums_read words s) ≡ place_lines words name place
+unfolding sums_lines place_lines sums_line entry_line
+sums_is words name place s at = ap (λ (p : Place). section_text (name_text name) (section_at words p)) (sym at)
 
 -- slot by slot
 zipped : (words : List ℕ) (named : List NamedSlot) (places : List Place)

@@ -1,6 +1,7 @@
 -- What the words of a file are as a dump.
 use Rattle.std.specs.Prelude.{◌≡◌, ℕ, ◌≤◌, true, List, [], map, drop, slice_get, Some, Result, Ok, Err}
 use Rattle.std.specs.Result.{result_unwrap_or}
+use Rattle.sx_ef.specs.declared.section.Sums.{Sums as SumsPlace}
 use Rattle.sx_fields.specs.declared.section.Section.{Section as Packed}
 use Rattle.sx_spec.specs.Layout.{Dump, Section, header_of, layout, sections_in, slots}
 use Rattle.sx_spec_program.specs.Offer.{opened_by}
@@ -70,3 +71,8 @@ pub record IsFunctionAt (places : List Place) (i : ℕ) : Type 0 where
 pub record IsListAt (places : List Place) (i : ℕ) : Type 0 where
   pub section : Packed
   pub there : slice_get places i ≡ Some (ListPlace section)
+
+-- place i is that of an Elias-Fano list
+pub record IsSumsAt (places : List Place) (i : ℕ) : Type 0 where
+  pub section : SumsPlace
+  pub there : slice_get places i ≡ Some (Sums section)

@@ -1,18 +1,22 @@
 -- What answers for a dump, by its kind.
 use Rattle.std.specs.Prelude.{◌≡◌, ℕ, List, drop}
+use Rattle.sx_ef.specs.Parts.{sums_of}
+use Rattle.sx_ef.specs.declared.view.EliasFano.{EliasFano}
 use Rattle.sx_fields.specs.declared.bank.WordBank.{Ghosts}
 use Rattle.sx_fields.specs.declared.packed.Packed.{Packed}
-use Rattle.sx_spec_kinds.specs.declared.Kind.TheVariants.{Func as FuncKind, Lcp as LcpKind, Lcp2 as Lcp2Kind}
+use Rattle.sx_spec_kinds.specs.declared.Kind.TheVariants.{Func as FuncKind, Lcp as LcpKind, Lcp2 as Lcp2Kind, Hollow as HollowKind}
+use Rattle.sx_hollow.specs.declared.view.HollowView.{HollowView}
 use Rattle.sx_lcp.specs.declared.lcp.LcpView.{LcpView}
 use Rattle.sx_lcp.specs.declared.lcp2.Lcp2View.{Lcp2View}
-use Rattle.sx_spec.specs.Fields.{fields}
+use Rattle.sx_ranksel.specs.Directory.{number_at}
+use Rattle.sx_spec.specs.Fields.{fields, ones_of}
 use Rattle.sx_spec.specs.Layout.{header_of}
 use Rattle.sx_spec.specs.Reply.{function_in, numbers_of, section_at}
 use Rattle.sx_static.specs.Viewing.{viewed}
 use Rattle.sx_static.specs.declared.view.FuncView.{FuncView}
 use Rattle.sx_dump.specs.Opening.{dump_in}
 use Rattle.sx_dump.specs.declared.view.View.{View}
-use Rattle.sx_dump.specs.declared.view.View.TheVariants.{Func, Lcp, Lcp2}
+use Rattle.sx_dump.specs.declared.view.View.TheVariants.{Func, Lcp, Lcp2, Hollow}
 
 -- the function that is read is that of section i of the dump in the words
 pub record ReadsFunction {B : Type 0} {bank_of : Ghosts B} (words : List ℕ) (i : ℕ) (v : FuncView B bank_of) : Type 0 where
@@ -21,6 +25,16 @@ pub record ReadsFunction {B : Type 0} {bank_of : Ghosts B} (words : List ℕ) (i
 -- the numbers that are read are those of section i of the dump in the words
 pub record ReadsNumbers {B : Type 0} {bank_of : Ghosts B} (words : List ℕ) (i : ℕ) (p : Packed B bank_of) : Type 0 where
   pub numbers : fields p.width p.len (drop p.first (bank_of.words_of p.bank)) ≡ numbers_of (dump_in words) i
+
+-- the numbers that an Elias-Fano list reads
+abbrev pub sums_by : {B : Type 0} {bank_of : Ghosts B} (e : EliasFano B bank_of) → List ℕ
+sums_by {bank_of = bank_of} e =
+    sums_of e.width (ones_of e.upper.bits (number_at e.upper.first (bank_of.words_of e.upper.bank)))
+    (fields e.low.width e.low.len (drop e.low.first (bank_of.words_of e.low.bank)))
+
+-- they are those of section i of the dump in the words
+pub record ReadsSums {B : Type 0} {bank_of : Ghosts B} (words : List ℕ) (i : ℕ) (e : EliasFano B bank_of) : Type 0 where
+  pub numbers : sums_by e ≡ numbers_of (dump_in words) i
 
 -- the function is that of a static function's dump in the words
 pub record IsFuncView {B : Type 0} {bank_of : Ghosts B} (words : List ℕ) (v : FuncView B bank_of) : Type 0 where
@@ -46,8 +60,16 @@ pub record IsLcp2View {B : Type 0} {bank_of : Ghosts B} (words : List ℕ) (v : 
   pub keys : v.keys ≡ (header_of words).keys
   pub bucket : v.log_bucket ≡ (header_of words).plan.log_bucket
 
+-- the hollow trie is that of a dump of kind hollow in the words
+pub record IsHollowView {B : Type 0} {bank_of : Ghosts B} (words : List ℕ) (v : HollowView B bank_of) : Type 0 where
+  pub kind : (header_of words).plan.kind ≡ HollowKind
+  pub lefts : ReadsSums words 0 v.left
+  pub skips : ReadsSums words 1 v.skip
+  pub keys : v.keys ≡ (header_of words).keys
+
 -- what answers is made from the sections of the dump in the words: a row for each kind
 pub record IsViewOf {B : Type 0} {bank_of : Ghosts B} (words : List ℕ) (view : View B bank_of) : Type 0 where
   pub func : (values : FuncView B bank_of) → view ≡ Func values → IsFuncView words values
   pub lcp : (lcp : LcpView B bank_of) → view ≡ Lcp lcp → IsLcpView words lcp
   pub lcp2 : (lcp2 : Lcp2View B bank_of) → view ≡ Lcp2 lcp2 → IsLcp2View words lcp2
+  pub hollow : (hollow : HollowView B bank_of) → view ≡ Hollow hollow → IsHollowView words hollow

@@ -1,15 +1,17 @@
 //! Dumps, and what they reply to lines.
 
-ghost use Rattle.std.specs.Prelude.{◌≡◌, ◌+◌, ◌≤◌, length};
+ghost use Rattle.std.specs.Prelude.{◌≡◌, ◌+◌, ◌≤◌, IfOk, length};
 ghost use Rattle.sx_spec.specs.Layout.{layout};
 ghost use Rattle.sx_spec.specs.Reply.{reads, reply, reply_number};
 ghost use Rattle.sx_dump.specs.Opening.{IsOpened, dump_in};
-ghost use Rattle.sx_dump.specs.Viewing.{IsFuncView, IsLcp2View, IsLcpView, IsViewOf};
+ghost use Rattle.sx_dump.specs.Viewing.{IsFuncView, IsHollowView, IsLcp2View, IsLcpView, IsViewOf};
 
 use crate::view::{View, view_of};
+use std::alloc::{AllocError, Global};
 use std::sync::ledger::Ledger;
 use sx_bits::BitView;
 use sx_fields::bank::WordBank;
+use sx_hollow::HollowView;
 use sx_lcp::{Lcp2View, LcpView};
 use sx_sections::header::Header;
 use sx_sections::open::Opened;
@@ -33,17 +35,20 @@ pub struct Dump<B: WordBank + Copy> {
 
 impl<B: WordBank + Copy> Dump<B> {
     /// The dump in a bank of words that were opened.
-    pub(crate) fn new(bank: B, opened: Opened) -> Self
+    ///
+    /// # Errors
+    /// Only for want of memory: directories of Elias-Fano lists are held.
+    pub(crate) fn new(alloc: Global, bank: B, opened: Opened) -> Result<Self, AllocError>
         requires { IsOpened (B.words_of bank) opened.header opened.places.items }
-        ensures { result.bank ≡ bank }
+        ensures { IfOk result (λ d. d.bank ≡ bank) }
     {
-        let view = view_of(bank, &opened);
-        Dump {
+        let view = view_of(alloc, bank, &opened)?;
+        Ok(Dump {
             bank,
             header: opened.header,
             places: opened.places,
             view,
-        }
+        })
     }
 
     /// What the dump holds.
@@ -88,6 +93,7 @@ impl<B: WordBank + Copy> Dump<B> {
             View::Func(values) => self.reply_by_function(values, line, steps),
             View::Lcp(lcp) => self.reply_by_lcp(lcp, line, steps),
             View::Lcp2(lcp2) => self.reply_by_lcp2(lcp2, line, steps),
+            View::Hollow(hollow) => self.reply_by_hollow(hollow, line, steps),
         }
     }
 
@@ -148,6 +154,24 @@ impl<B: WordBank + Copy> Dump<B> {
         let header = &self.header;
         let key = BitView::key_bits(line);
         number_of(lcp2.answer(&key, header.seed, header.plan.sig_bits, steps))
+    }
+
+    /// The same of the kind `hollow`, in at most 162 reads of words for each bit of the line. No
+    /// signature is made.
+    fn reply_by_hollow<L: Ledger>(
+        &self,
+        hollow: &HollowView<B>,
+        line: &[u8],
+        steps: &mut Steps<L>,
+    ) -> i128
+        requires short { length line.now ≤ 8191 }
+        requires view { IsHollowView (B.words_of self.now.bank) hollow.now }
+        ensures value { result
+            ≡ reply_number (reply (dump_in (B.words_of self.now.bank)) line.now) }
+        ensures counted { steps.old ≤ steps.new }
+        ensures cost { steps.new ≤ steps.old + reads (dump_in (B.words_of self.now.bank)) line.now }
+    {
+        number_of(hollow.answer(&BitView::key_bits(line), steps))
     }
 }
 

@@ -27,14 +27,15 @@ pub enum OpenFault {
 
 /// Opens a file of so many bytes by its words, as a dump that answers from a bank of the same
 /// words. Where the bytes don't fill the last word, check 1 fails, whatever stands
-/// in the rest of it. No memory is taken.
+/// in the rest of it. Memory is taken only for directories of Elias-Fano lists, and
+/// after every check.
 ///
 /// # Errors
 /// The number of the first check that fails: 1 to 10 of the file's size and its header, where kinds
 /// that aren't opened fail check 4 and signed dumps check 9; 11 to 17 of the sections; 18 where words
-/// follow them.
+/// follow them. Where none fails, want of memory.
 pub fn open_dump<B: WordBank + Copy>(
-    _alloc: Global,
+    alloc: Global,
     words: &[u64],
     bytes: u64,
     bank: B,
@@ -51,7 +52,10 @@ pub fn open_dump<B: WordBank + Copy>(
         → IsFile words.now bytes file → IsFault words.now file fault) }
 {
     match open_offered(words, bytes, offer::kinds(), offer::signed()) {
-        Ok(opened) => Ok(Dump::new(bank, opened)),
+        Ok(opened) => match Dump::new(alloc, bank, opened) {
+            Ok(dump) => Ok(dump),
+            Err(AllocError) => Err(OpenFault::Memory),
+        },
         Err(check) => Err(OpenFault::Malformed {
             check: check.number(),
         }),

@@ -127,6 +127,27 @@ const LETTERS: [u64; 20] = [
     2,
 ];
 
+/// The dump of kind `hollow` of the keys a, b and c.
+const HOLLOW: [u64; 17] = [
+    0x3150_4D55_4458_5553,
+    17,
+    3,
+    0,
+    3,
+    0,
+    192,
+    0,
+    0,
+    0,
+    3,
+    3,
+    21,
+    3,
+    7,
+    0,
+    49,
+];
+
 /// The number of the check that fails, 0 where the file is opened, or 255.
 fn failing(alloc: Global, words: &[u64], bytes: u64) -> u8
     requires { length words.now ≡ div_ceil bytes 8 }
@@ -181,7 +202,7 @@ fn headers_are_checked(rt: HostRuntime) -> Result<(), Fail> {
     assert_eq!(rt; failing(alloc, &FIVES[..14], 111), 1);
     assert_eq!(rt; changed(alloc, 0, 0), 2);
     assert_eq!(rt; changed(alloc, 1, 15), 3);
-    assert_eq!(rt; changed(alloc, 2, 3), 4);
+    assert_eq!(rt; changed(alloc, 2, 4), 4);
     assert_eq!(rt; changed(alloc, 2, 6), 4);
     assert_eq!(rt; changed(alloc, 3, 2), 5);
     assert_eq!(rt; changed(alloc, 4, 1 << 32), 6);
@@ -227,6 +248,27 @@ fn sections_of_distributors_are_checked(rt: HostRuntime) -> Result<(), Fail> {
     Ok(())
 }
 
+#[test]
+fn sections_of_hollow_tries_are_checked(rt: HostRuntime) -> Result<(), Fail> {
+    let alloc = rt.alloc();
+    assert_eq!(rt; failing(alloc, &HOLLOW, 136), 0);
+    assert_eq!(rt; changed_in(alloc, &HOLLOW, 3, 1), 5);
+    assert_eq!(rt; changed_in(alloc, &HOLLOW, 8, 1), 9);
+    assert_eq!(rt; changed_in(alloc, &HOLLOW, 4, 4), 12);
+    assert_eq!(rt; changed_in(alloc, &HOLLOW, 10, u64::MAX), 12);
+    assert_eq!(rt; changed_in(alloc, &HOLLOW, 12, 53), 15);
+    assert_eq!(rt; changed_in(alloc, &HOLLOW, 12, 5), 16);
+    assert_eq!(rt; changed_in(alloc, &HOLLOW, 11, 0), 16);
+    assert_eq!(rt; changed_in(alloc, &HOLLOW, 11, u64::MAX), 16);
+    let mut words = [0; 18];
+    words[..17].copy_from_slice(&HOLLOW);
+    words[1] = 16;
+    assert_eq!(rt; failing(alloc, &words[..16], 128), 11);
+    words[1] = 18;
+    assert_eq!(rt; failing(alloc, &words, 144), 18);
+    Ok(())
+}
+
 /// The reply of a dump to a line, or -2 where the dump isn't opened.
 fn replied(alloc: Global, words: &[u64], line: &[u8]) -> i128
     requires few { length words.now ≤ 28 }
@@ -252,6 +294,20 @@ fn distributors_reply(rt: HostRuntime) {
 }
 
 #[test]
+fn hollow_tries_reply(rt: HostRuntime) {
+    let alloc = rt.alloc();
+    assert_eq!(rt; replied(alloc, &HOLLOW, b"a"), 0);
+    assert_eq!(rt; replied(alloc, &HOLLOW, b"b"), 1);
+    assert_eq!(rt; replied(alloc, &HOLLOW, b"c"), 2);
+    assert_eq!(rt; replied(alloc, &HOLLOW, b"a\x00"), 0);
+    assert_eq!(rt; replied(alloc, &HOLLOW, b"z"), 1);
+    assert_eq!(rt; replied(alloc, &HOLLOW, b""), 0);
+    let mut words = HOLLOW;
+    words[12] = 19;
+    assert_eq!(rt; replied(alloc, &words, b"a"), -1);
+}
+
+#[test]
 fn dumps_reply(rt: HostRuntime) -> Result<(), Fail> {
     let alloc = rt.alloc();
     match open_dump(alloc, &EMPTY, 112, Words::new(&EMPTY)) {
@@ -269,10 +325,12 @@ fn dumps_reply(rt: HostRuntime) -> Result<(), Fail> {
     Ok(())
 }
 
-/// A sink with so much room that the dump without keys was shown to, and whether that failed.
-fn shown(alloc: Global, room: usize) -> Result<(MemSink, bool), Fail> {
+/// A sink with so much room that a dump was shown to, and whether that failed.
+fn shown(alloc: Global, words: &[u64], room: usize) -> Result<(MemSink, bool), Fail>
+    requires { length words.now ≤ 28 }
+{
     let mut out = MemSink::new(alloc, room, 100, Vec::new(alloc))?;
-    let failed = match open_dump(alloc, &EMPTY, 112, Words::new(&EMPTY)) {
+    let failed = match open_dump(alloc, words, 8 * words.len() as u64, Words::new(words)) {
         Ok(dump) => dump.show(&mut out).is_err(),
         Err(_) => true,
     };
@@ -283,11 +341,21 @@ fn shown(alloc: Global, room: usize) -> Result<(MemSink, bool), Fail> {
 fn dumps_are_shown(rt: HostRuntime) -> Result<(), Fail> {
     let text =
         b"layout 1\nkind func\nmethod mwhc\nkeys 0\nseed 0\nsig-bits 192\nlog-bucket 0\nsigned 0\nhandle-bits 0\nfunction values width 0 pairs 0 chunks 1 cells 0\nchunk 0 segment 0 try 0\n".as_slice();
-    let (out, failed) = shown(rt.alloc(), 4096)?;
+    let (out, failed) = shown(rt.alloc(), &EMPTY, 4096)?;
     assert!(rt; !failed);
     assert_eq!(rt; out.bytes(), text);
-    let (out, failed) = shown(rt.alloc(), 10)?;
+    let (out, failed) = shown(rt.alloc(), &EMPTY, 10)?;
     assert!(rt; failed);
     assert_eq!(rt; out.bytes(), &text[..10]);
+    Ok(())
+}
+
+#[test]
+fn hollow_tries_are_shown(rt: HostRuntime) -> Result<(), Fail> {
+    let text =
+        b"layout 1\nkind hollow\nmethod mwhc\nkeys 3\nseed 0\nsig-bits 192\nlog-bucket 0\nsigned 0\nhandle-bits 0\nsums left count 3 below 3\nitem 0 0\nitem 1 1\nitem 2 2\nsums skip count 3 below 7\nitem 0 0\nitem 1 6\nitem 2 6\n".as_slice();
+    let (out, failed) = shown(rt.alloc(), &HOLLOW, 4096)?;
+    assert!(rt; !failed);
+    assert_eq!(rt; out.bytes(), text);
     Ok(())
 }

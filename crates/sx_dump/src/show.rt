@@ -1,6 +1,7 @@
 //! A dump as text, written as it is made: only a page of it is held, and no memory is taken.
 
-ghost use Rattle.std.specs.Prelude.{◌≡◌, ◌+◌, ◌<◌, ◌≤◌, ◌++◌, OnOk, OnErr, Some, drop, length, slice_get};
+ghost use Rattle.std.specs.Prelude.{◌≡◌, ◌+◌, ◌<◌, ◌≤◌, ◌/◌, ◌^◌, ◌++◌, ◌==◌, All, OnOk, OnErr, Some, codes, drop, length, slice_get};
+ghost use Rattle.std.specs.Int.{bit_at};
 ghost use Rattle.std.specs.Io.KnownBytes.{Appends};
 ghost use Rattle.sx_spec.specs.Causes.{HasCause};
 ghost use Rattle.sx_spec.specs.Chunks.{chunk_count as chunk_count_of};
@@ -8,23 +9,28 @@ ghost use Rattle.sx_spec.specs.Fields.{fields};
 ghost use Rattle.sx_spec.specs.Layout.{table_start};
 ghost use Rattle.sx_spec.specs.Show.{dump_text};
 ghost use Rattle.sx_static.specs.Viewing.{IsViewed, viewed};
+ghost use Rattle.sx_ranksel.specs.Directory.{number_at};
 ghost use Rattle.sx_edge.specs.Parts.{AppendsPrefix};
 ghost use Rattle.sx_sections.specs.Headers.{header_as};
-ghost use Rattle.sx_sections.specs.Places.{IsListed, Stands};
+ghost use Rattle.sx_sections.specs.Places.{IsListed, IsSummed, Stands};
 ghost use Rattle.sx_dump.specs.Opening.{IsOpened, dump_in};
-ghost use Rattle.sx_dump.specs.Showing.{IsShown, IsShownPlace, chunk_lines, function_lines, list_lines, number_lines, place_lines, places_lines, text_in};
+ghost use Rattle.sx_dump.specs.Showing.{IsShown, IsShownPlace, chunk_lines, function_lines, list_lines, number_lines, place_lines, places_lines, sums_lines, sums_read, text_in};
 
 use crate::dump::Dump;
 use std::marker::Brand;
 use std::sync::ledger::{Blank, Ledger};
 use sx_edge::sink::{Sink, write_all};
 use sx_edge::source::Failed;
+use sx_ef::encode::low_bits;
+use sx_ef::section::Sums;
 use sx_fields::bank::WordBank;
 use sx_fields::fields::Fields;
 use sx_fields::packed::Packed;
 use sx_fields::section::Section;
 use sx_sections::header::Header;
-use sx_sections::lines::{Page, Sizes, put_chunk, put_entry, put_function, put_header, put_list};
+use sx_sections::lines::{
+    Page, Sizes, put_chunk, put_entry, put_function, put_header, put_list, put_sums,
+};
 use sx_sections::name::SectionName;
 use sx_sections::place::Place;
 use sx_sections::slots::slots;
@@ -203,6 +209,77 @@ fn show_list<B: WordBank + Copy, O: Sink, L: Ledger>(
     show_numbers("item", &numbers, steps, page, out)
 }
 
+/// Whether a bit of the words of a bank is one, counted from the lowest bit of word `first` on.
+fn is_one<B: WordBank, L: Ledger>(bank: &B, first: usize, bit: u64, steps: &mut Steps<L>) -> bool
+    requires within { first + bit / 64 < length (B.words_of bank.now) }
+    requires small { All (λ w. w < 2 ^ 64) (B.words_of bank.now) }
+    requires long { length (B.words_of bank.now) < 2 ^ 64 }
+    ensures value { result ≡ (bit_at (number_at first (B.words_of bank.now)) bit == 1) }
+    ensures counted { steps.old ≤ steps.new }
+{
+    bank.word(first + (bit / 64) as usize, steps) >> (bit % 64) & 1 == 1
+}
+
+/// Puts a line for each number of an Elias-Fano list behind the page's text, and writes what finds
+/// no room there. Each one among the upper bits stands for a number, whose high part is how many
+/// zeros are before it: so no directory is needed.
+fn show_sums_items<B: WordBank + Copy, O: Sink, L: Ledger>(
+    sums: &Sums,
+    bank: B,
+    steps: &mut Steps<L>,
+    page: &mut Page,
+    out: &mut O,
+) -> Result<(), Failed>
+    requires { IsSummed (B.words_of bank) sums.now }
+    ensures ok { OnOk result (IsShown (O.written out.old) (O.written out.new)
+        (page.old.bytes ++ number_lines (codes "item") (sums_read (B.words_of bank) sums.now))
+        page.new.bytes) }
+    ensures failed { OnErr result (AppendsPrefix (O.written out.old) (O.written out.new)
+        (page.old.bytes ++ number_lines (codes "item") (sums_read (B.words_of bank) sums.now))) }
+    ensures cause { HasCause (O.faults out.old) (O.faults out.new) result }
+    ensures counted { steps.old ≤ steps.new }
+{
+    let _words = bank.words();
+    let width = low_bits(sums.count, sums.below);
+    let low = Packed::new(bank, sums.body, sums.count as usize, width);
+    let upper = sums.body + (sums.count * u64::from(width)).div_ceil(64) as usize;
+    let mut i = 0;
+    'bits: for bit in 0..sums.count + ((sums.below - 1) >> width) {
+        if !is_one(&bank, upper, bit, steps) {
+            continue;
+        }
+        make_room(page, out)?;
+        let high = bit - i as u64;
+        put_entry(page, "item", i as u64, (high << width) + low.read(i, steps));
+        i += 1;
+    }
+    Ok(())
+}
+
+/// Puts the lines of an Elias-Fano list of this name behind the page's text, and writes what finds
+/// no room there.
+fn show_sums<B: WordBank + Copy, O: Sink, L: Ledger>(
+    name: SectionName,
+    sums: &Sums,
+    bank: B,
+    steps: &mut Steps<L>,
+    page: &mut Page,
+    out: &mut O,
+) -> Result<(), Failed>
+    requires { IsSummed (B.words_of bank) sums.now }
+    ensures ok { OnOk result (IsShown (O.written out.old) (O.written out.new)
+        (page.old.bytes ++ sums_lines name (sums_read (B.words_of bank) sums.now))
+        page.new.bytes) }
+    ensures failed { OnErr result (AppendsPrefix (O.written out.old) (O.written out.new)
+        (page.old.bytes ++ sums_lines name (sums_read (B.words_of bank) sums.now))) }
+    ensures cause { HasCause (O.faults out.old) (O.faults out.new) result }
+    ensures counted { steps.old ≤ steps.new }
+{
+    make_room(page, out)?;
+    put_sums(page, name, sums.count, sums.below);
+    show_sums_items(sums, bank, steps, page, out)
+}
+
 /// The function whose section lies there in the words of a bank.
 fn function_in<B: WordBank + Copy>(bank: B, section: &Section) -> FuncView<B>
     requires { IsViewed (B.words_of bank) section.now.body section.now.width section.now.count }
@@ -236,8 +313,9 @@ fn show_section<B: WordBank + Copy, O: Sink, L: Ledger>(
             show_function(name, &function_in(bank, section), steps, page, out)
         }
         Place::List(section) => show_list(name, section, bank, steps, page, out),
-        // No kind that is opened has other sections: a dump of another fails check 4.
-        Place::Sums(_) | Place::Corrections(_) => unreachable!(),
+        Place::Sums(sums) => show_sums(name, sums, bank, steps, page, out),
+        // No kind that is opened has corrections: a dump of another fails check 4.
+        Place::Corrections(_) => unreachable!(),
     }
 }
 
@@ -271,7 +349,7 @@ fn show_places<B: WordBank + Copy, O: Sink, L: Ledger>(
 impl<B: WordBank + Copy> Dump<B> {
     /// Writes the dump as text: nine lines of its header, and a line for each of its sections.
     /// Behind that of a function comes one for each chunk, and one for each cell; behind that of a
-    /// list one for each number; of each there are fewer than 2 to the power 32. At most 4,096
+    /// list of either sort one for each number; of each there are fewer than 2 to the power 32. At most 4,096
     /// bytes are held, and no memory is taken.
     ///
     /// # Errors

@@ -1,12 +1,14 @@
 //! What answers for a dump, by its kind, made from the places of its sections.
 
-ghost use Rattle.std.specs.Prelude.{◌≡◌};
-ghost use Rattle.sx_dump.specs.Opening.{IsFunctionAt, IsListAt, IsOpened};
-ghost use Rattle.sx_dump.specs.Viewing.{IsLcp2View, IsLcpView, IsViewOf, ReadsFunction, ReadsNumbers};
+ghost use Rattle.std.specs.Prelude.{◌≡◌, IfOk};
+ghost use Rattle.sx_dump.specs.Opening.{IsFunctionAt, IsListAt, IsOpened, IsSumsAt};
+ghost use Rattle.sx_dump.specs.Viewing.{IsHollowView, IsLcp2View, IsLcpView, IsViewOf, ReadsFunction, ReadsNumbers, ReadsSums};
 
-use std::alloc::AllocError;
+use std::alloc::{AllocError, Global};
+use sx_ef::view::EliasFano;
 use sx_fields::bank::WordBank;
 use sx_fields::packed::Packed;
+use sx_hollow::HollowView;
 use sx_lcp::{Lcp2View, LcpView};
 use sx_sections::open::Opened;
 use sx_sections::place::Place;
@@ -14,7 +16,7 @@ use sx_spec::Kind;
 use sx_static::FuncView;
 
 /// The sections of a dump, as they answer from a bank of its words.
-#[derive(Copy)]
+#[derive(Drop)]
 pub enum View<B: WordBank + Copy> {
     /// Those of a static function: the function.
     Func(FuncView<B>),
@@ -22,14 +24,8 @@ pub enum View<B: WordBank + Copy> {
     Lcp(LcpView<B>),
     /// Those of the kind `lcp2`: the offsets, the codes of the lengths, and the prefixes.
     Lcp2(Lcp2View<B>),
-}
-
-impl<B: WordBank + Copy> Clone for View<B> {
-    ghost is_clone = { λ x y. y ≡ x };
-
-    fn clone(&self) -> Result<Self, AllocError> {
-        Ok(*self)
-    }
+    /// Those of the kind `hollow`: the sums of the two lists.
+    Hollow(HollowView<B>),
 }
 
 /// The function of section `i` of the dump in a bank of words that were opened.
@@ -57,6 +53,26 @@ fn list_at<B: WordBank + Copy>(bank: B, opened: &Opened, i: usize) -> Packed<B>
             Packed::new(bank, section.body, section.count as usize, section.width)
         }
         Place::Function(_) | Place::Sums(_) | Place::Corrections(_) => unreachable!(),
+    }
+}
+
+/// The numbers of section `i`, an Elias-Fano list, of the dump in a bank of words that were opened.
+///
+/// # Errors
+/// Only for want of memory: a directory of the list is held.
+fn sums_at<B: WordBank + Copy>(
+    alloc: Global,
+    bank: B,
+    opened: &Opened,
+    i: usize,
+) -> Result<EliasFano<B>, AllocError>
+    requires opened { IsOpened (B.words_of bank) opened.now.header opened.now.places.items }
+    requires sums { IsSumsAt opened.now.places.items i }
+    ensures { IfOk result (ReadsSums (B.words_of bank) i) }
+{
+    match &opened.places.as_slice()[i] {
+        Place::Sums(sums) => EliasFano::over(alloc, bank, sums.body, sums.count, sums.below),
+        Place::Function(_) | Place::List(_) | Place::Corrections(_) => unreachable!(),
     }
 }
 
@@ -95,15 +111,42 @@ fn lcp2_view<B: WordBank + Copy>(bank: B, opened: &Opened) -> Lcp2View<B>
     )
 }
 
+/// The hollow trie of the dump of kind `hollow` in a bank of words that were opened.
+///
+/// # Errors
+/// Only for want of memory: directories of its two lists are held.
+fn hollow_view<B: WordBank + Copy>(
+    alloc: Global,
+    bank: B,
+    opened: &Opened,
+) -> Result<HollowView<B>, AllocError>
+    requires opened { IsOpened (B.words_of bank) opened.now.header opened.now.places.items }
+    requires kind { opened.now.header.plan.kind ≡ Kind.Hollow }
+    ensures { IfOk result (IsHollowView (B.words_of bank)) }
+{
+    let left = sums_at(alloc, bank, opened, 0)?;
+    let skip = sums_at(alloc, bank, opened, 1)?;
+    let keys = u64::from(opened.header.keys);
+    Ok(HollowView::new(left, skip, keys))
+}
+
 /// What answers for the dump in a bank of words that were opened.
-pub fn view_of<B: WordBank + Copy>(bank: B, opened: &Opened) -> View<B>
+///
+/// # Errors
+/// Only for want of memory: directories of Elias-Fano lists are held.
+pub fn view_of<B: WordBank + Copy>(
+    alloc: Global,
+    bank: B,
+    opened: &Opened,
+) -> Result<View<B>, AllocError>
     requires { IsOpened (B.words_of bank) opened.now.header opened.now.places.items }
-    ensures { IsViewOf (B.words_of bank) result }
+    ensures { IfOk result (IsViewOf (B.words_of bank)) }
 {
     match opened.header.plan.kind {
-        Kind::Func => View::Func(function_at(bank, opened, 0)),
-        Kind::Lcp => View::Lcp(lcp_view(bank, opened)),
-        Kind::Lcp2 => View::Lcp2(lcp2_view(bank, opened)),
-        Kind::Hollow | Kind::HollowDist | Kind::Zfast => unreachable!(),
+        Kind::Func => Ok(View::Func(function_at(bank, opened, 0))),
+        Kind::Lcp => Ok(View::Lcp(lcp_view(bank, opened))),
+        Kind::Lcp2 => Ok(View::Lcp2(lcp2_view(bank, opened))),
+        Kind::Hollow => Ok(View::Hollow(hollow_view(alloc, bank, opened)?)),
+        Kind::HollowDist | Kind::Zfast => unreachable!(),
     }
 }

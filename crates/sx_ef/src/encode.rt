@@ -22,7 +22,7 @@ pub struct EfBuf {
 
 /// How many low bits each of `count` numbers below `below` has: the largest with `count * 2^bits <= below`, or 0.
 #[inline]
-pub(crate) fn low_bits(count: u64, below: u64) -> u32
+pub fn low_bits(count: u64, below: u64) -> u32
     requires { 0 < count }
     ensures width { result ≡ low_width count below }
     ensures narrow { result ≤ 63 }

@@ -1,4 +1,4 @@
-use Rattle.std.proofs.Common.{ℕ, ◌≤◌, List, Err, sym, ap, subst, ◌∙◌}
+use Rattle.std.proofs.Common.{ℕ, ◌≤◌, List, Err, refl, sym, ap, subst, ◌∙◌}
 use Rattle.sx_spec_kinds.specs.declared.Kind.{Kind}
 use Rattle.sx_spec_program.specs.Program.{sux_offer}
 use Rattle.sx_sections.specs.Offers.{is_offered}
@@ -15,17 +15,27 @@ new-requires g c =
     subst (λ (words : List ℕ). IsOpened words o.header o.places.items) (sym c.requires.bank)
     (is_opened c.args.words.now o here.header here.places here.bounded offered narrow here.laid)
 
-pub returns-in-Ok-clause-found : goal.returns-in-Ok-clause-found
-returns-in-Ok-clause-found g c =
+pub returns-in-Ok-new-clause-found : goal.returns-in-Ok-new-clause-found
+returns-in-Ok-new-clause-found g c =
     let here = c.in-Ok.ensures in
-    opens c.args.words.now c.in-Ok.opened here.header here.places (g.B.WordBank.words_of c.new.result.bank) _
-    (ap g.B.WordBank.words_of c.new.ensures ∙ c.requires.bank) (here.found sux_offer (sym c.kinds.ensures) (sym c.signed.ensures))
+    opens c.args.words.now c.in-Ok.opened here.header here.places (g.B.WordBank.words_of c.in-Ok-new.dump.bank) _
+    (ap g.B.WordBank.words_of c.in-Ok-new.ensures ∙ c.requires.bank) (here.found sux_offer (sym c.kinds.ensures) (sym c.signed.ensures))
 
-pub returns-in-Ok-clause-opened : goal.returns-in-Ok-clause-opened
-returns-in-Ok-clause-opened g c = λ file held.
+pub returns-in-Ok-new-clause-opened : goal.returns-in-Ok-new-clause-opened
+returns-in-Ok-new-clause-opened g c = λ file held.
     let here = c.in-Ok.ensures in
-    opens c.args.words.now c.in-Ok.opened here.header here.places (g.B.WordBank.words_of c.new.result.bank) _
-    (ap g.B.WordBank.words_of c.new.ensures ∙ c.requires.bank) (here.opened sux_offer (sym c.kinds.ensures) (sym c.signed.ensures) file held)
+    opens c.args.words.now c.in-Ok.opened here.header here.places (g.B.WordBank.words_of c.in-Ok-new.dump.bank) _
+    (ap g.B.WordBank.words_of c.in-Ok-new.ensures ∙ c.requires.bank) (here.opened sux_offer (sym c.kinds.ensures) (sym c.signed.ensures) file held)
+
+pub returns-in-Err-new-clause-refused : goal.returns-in-Err-new-clause-refused
+returns-in-Err-new-clause-refused g c =
+    let here = c.in-Ok.ensures in
+    opens c.args.words.now c.in-Ok.opened here.header here.places c.args.words.now _ refl (here.found sux_offer (sym c.kinds.ensures) (sym c.signed.ensures))
+
+pub returns-in-Err-new-clause-fault : goal.returns-in-Err-new-clause-fault
+returns-in-Err-new-clause-fault g c = λ file held.
+    let here = c.in-Ok.ensures in
+    opens c.args.words.now c.in-Ok.opened here.header here.places c.args.words.now _ refl (here.opened sux_offer (sym c.kinds.ensures) (sym c.signed.ensures) file held)
 
 pub returns-in-Err-clause-refused : goal.returns-in-Err-clause-refused
 returns-in-Err-clause-refused g c = c.in-Err.ensures.found sux_offer (sym c.kinds.ensures) (sym c.signed.ensures) ∙ ap (λ (n : ℕ). Err n) (sym c.number.ensures)

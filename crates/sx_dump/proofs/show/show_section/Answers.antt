@@ -3,7 +3,7 @@ use Rattle.std.specs.Prelude.{OnOk, OnErr}
 use Rattle.sx_edge.specs.Parts.{AppendsPrefix}
 use Rattle.sx_static.specs.Viewing.{viewed}
 use Rattle.sx_dump.specs.Showing.{IsShown}
-use Rattle.sx_dump.proofs.ShownPlaces.{function_is, list_is}
+use Rattle.sx_dump.proofs.ShownPlaces.{function_is, list_is, sums_is}
 use Rattle.sx_dump.proofs.show.show_section.Goals as goal
 
 pub returns-in-Function-clause-ok : goal.returns-in-Function-clause-ok
@@ -33,3 +33,15 @@ returns-in-List-clause-failed g c =
     let same = list_is (g.B.WordBank.words_of c.args.bank) c.args.name c.args.place.now c.in-List.section c.in-List.is in
     subst (λ (lines : List ℕ). OnErr c.show_list.result (AppendsPrefix (g.O.Sink.written c.args.out.now) (g.O.Sink.written c.show_list.new.out) (c.args.page.now.bytes ++ lines)))
     same c.show_list.ensures.failed
+
+pub returns-in-Sums-clause-ok : goal.returns-in-Sums-clause-ok
+returns-in-Sums-clause-ok g c =
+    let same = sums_is (g.B.WordBank.words_of c.args.bank) c.args.name c.args.place.now c.in-Sums.sums c.in-Sums.is in
+    subst (λ (lines : List ℕ). OnOk c.show_sums.result (IsShown (g.O.Sink.written c.args.out.now) (g.O.Sink.written c.show_sums.new.out) (c.args.page.now.bytes ++ lines) c.show_sums.new.page.bytes))
+    same c.show_sums.ensures.ok
+
+pub returns-in-Sums-clause-failed : goal.returns-in-Sums-clause-failed
+returns-in-Sums-clause-failed g c =
+    let same = sums_is (g.B.WordBank.words_of c.args.bank) c.args.name c.args.place.now c.in-Sums.sums c.in-Sums.is in
+    subst (λ (lines : List ℕ). OnErr c.show_sums.result (AppendsPrefix (g.O.Sink.written c.args.out.now) (g.O.Sink.written c.show_sums.new.out) (c.args.page.now.bytes ++ lines)))
+    same c.show_sums.ensures.failed

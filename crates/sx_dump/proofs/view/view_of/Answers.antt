@@ -1,6 +1,6 @@
 use Rattle.std.proofs.Common.{◌≡◌, subst}
 use Rattle.sx_spec_kinds.specs.declared.Kind.TheVariants.{Func}
-use Rattle.sx_dump.specs.Viewing.{IsFuncView, IsLcp2View, IsLcpView}
+use Rattle.sx_dump.specs.Viewing.{IsFuncView, IsHollowView, IsLcp2View, IsLcpView}
 use Rattle.sx_dump.proofs.Sections.{func_values, function_there, kind_is}
 use Rattle.sx_dump.proofs.view.view_of.Goals as goal
 
@@ -23,6 +23,7 @@ returns-in-Func g c =
       func = λ v same. let e : c.function_at.result ≡ v = cc in subst (λ w. IsFuncView words w) e view;
       lcp = λ v same. absurd cc;
       lcp2 = λ v same. absurd cc;
+      hollow = λ v same. absurd cc;
     }
 
 pub returns-in-Lcp : goal.returns-in-Lcp
@@ -32,6 +33,7 @@ returns-in-Lcp g c =
       func = λ v same. absurd cc;
       lcp = λ v same. let e : c.lcp_view.result ≡ v = cc in subst (λ w. IsLcpView words w) e c.lcp_view.ensures;
       lcp2 = λ v same. absurd cc;
+      hollow = λ v same. absurd cc;
     }
 
 pub returns-in-Lcp2 : goal.returns-in-Lcp2
@@ -41,4 +43,15 @@ returns-in-Lcp2 g c =
       func = λ v same. absurd cc;
       lcp = λ v same. absurd cc;
       lcp2 = λ v same. let e : c.lcp2_view.result ≡ v = cc in subst (λ w. IsLcp2View words w) e c.lcp2_view.ensures;
+      hollow = λ v same. absurd cc;
+    }
+
+pub returns-in_ok-hollow_view-in-Hollow : goal.returns-in_ok-hollow_view-in-Hollow
+returns-in_ok-hollow_view-in-Hollow g c =
+    let words = g.B.WordBank.words_of c.args.bank in
+    record {
+      func = λ v same. absurd cc;
+      lcp = λ v same. absurd cc;
+      lcp2 = λ v same. absurd cc;
+      hollow = λ v same. let e : c.in_ok-hollow_view-in-Hollow.field-0 ≡ v = cc in subst (λ w. IsHollowView words w) e c.in_ok-hollow_view-in-Hollow.ensures;
     }

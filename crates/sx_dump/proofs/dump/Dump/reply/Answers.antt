@@ -9,3 +9,6 @@ reply_by_lcp-requires-clause-view g c = c.args.self.now.viewed.lcp _ (search rul
 
 pub reply_by_lcp2-requires-clause-view : goal.reply_by_lcp2-requires-clause-view
 reply_by_lcp2-requires-clause-view g c = c.args.self.now.viewed.lcp2 _ (search rules)
+
+pub reply_by_hollow-requires-clause-view : goal.reply_by_hollow-requires-clause-view
+reply_by_hollow-requires-clause-view g c = c.args.self.now.viewed.hollow _ (search rules)
