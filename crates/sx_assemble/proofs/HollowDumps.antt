@@ -1,7 +1,7 @@
 -- Dumps of hollow tries: the lists of all keys, their sums, the sections and the headers.
-use Rattle.std.proofs.Common.{◌≡◌, ℕ, zero, suc, ◌+◌, ◌-◌, ◌*◌, ◌/◌, ◌%◌, ◌^◌, ◌<◌, ◌≤◌, List, [], ◌∷◌, ◌++◌, length, map, get_or, refl, sym, ap, subst, ◌∙◌, arith}
-use Rattle.std.specs.Prelude.{flat_map, sum_by}
-use Rattle.std.specs.List.{AllByRecursion, enumerate_from, range_with_len, slice_index_or}
+use Rattle.std.proofs.Common.{◌≡◌, ℕ, zero, suc, ◌+◌, ◌-◌, ◌*◌, ◌/◌, ◌%◌, ◌^◌, ◌<◌, ◌≤◌, List, [], ◌∷◌, length, map, get_or, refl, sym, ap, subst, ◌∙◌, arith}
+use Rattle.std.specs.Prelude.{sum_by}
+use Rattle.std.specs.List.{enumerate_from, range_with_len, slice_index_or}
 use Rattle.std.proofs.lemmas.List.{get_or-map, length-append, length-map}
 use Rattle.std.proofs.lemmas.List.FromFn.{fill_by_all, get_or-range_with_len, length-range_with_len}
 use Rattle.sx_spec_strings.specs.Bits.{Bits, key_bits}
@@ -28,7 +28,7 @@ use Rattle.sx_ef.proofs.Widths.{upper_few, width_le}
 use Rattle.sx_trie.specs.Tries.{AreRising, delimiter_bits}
 use Rattle.sx_assemble.specs.declared.layout.SectionBuf.{SectionBuf}
 use Rattle.sx_assemble.specs.Hollowing.{AreHollow, IsHollowPlan}
-use Rattle.sx_assemble.specs.Sectioning.{AreLaidOut, AreSectionsOf, IsWhole, header_for, held_words, section_built}
+use Rattle.sx_assemble.specs.Sectioning.{AreSectionsOf, IsWhole, header_for, held_words, section_built}
 use Rattle.sx_assemble.proofs.BuiltDumps.{AreSources, few_lines}
 use Rattle.sx_assemble.proofs.Cells.{words_le}
 use Rattle.sx_assemble.proofs.KeyParts.{unsigned_sections}

@@ -1,6 +1,6 @@
-use Rattle.std.proofs.Common.{◌≡◌, ◌∙◌, IfOk, List, length, map, ap, subst, sym}
+use Rattle.std.proofs.Common.{◌≡◌, ◌∙◌, IfOk, List, length, ap, subst, sym}
 use Rattle.std.specs.List.{range_with_len}
-use Rattle.sx_spec_strings.specs.Bits.{Bits, key_bits}
+use Rattle.sx_spec_strings.specs.Bits.{Bits}
 use Rattle.sx_spec_kinds.specs.Hollow.{left_counts, skips}
 use Rattle.sx_trie.specs.Tries.{AreRising, delimiter_bits}
 use Rattle.sx_assemble.proofs.HollowDumps.{all_bits, all_rise}
