@@ -207,9 +207,9 @@ fn each_call_of_a_hollow_trie_fails(rt: HostRuntime) -> Result<(), Fail> {
     let build = Job::plain("build hollow D", b"a\nb\nc\n", b"");
     let dump = each_call_fails(&rt, rt.alloc(), &build, [3, 3, 3])?;
     for (line, input, calls) in [
-        ("query D", b"a\nb\nc\n".as_slice(), [4, 3, 3]),
+        ("query D", b"a\nb\nc\n".as_slice(), [4, 3, 2]),
         ("open D", b"", [4, 0, 3]),
-        ("dump D", b"", [4, 0, 31]),
+        ("dump D", b"", [4, 0, 26]),
     ] {
         let job = Job::plain(line, input, &dump);
         each_call_fails(&rt, rt.alloc(), &job, calls)?;
