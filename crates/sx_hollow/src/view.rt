@@ -1,22 +1,22 @@
 //! The walk of a string by the lists of a hollow trie.
 
-ghost use Rattle.std.specs.Prelude.{◌≡◌, ◌+◌, ◌*◌, ◌<◌, ◌≤◌, ◌^◌, All, IfOk, IfSome, length, max};
+ghost use Rattle.std.specs.Prelude.{◌≡◌, ◌+◌, ◌*◌, ◌<◌, ◌≤◌, ◌^◌, IfOk, IfSome, length, max};
 ghost use Rattle.sx_spec.specs.Reply.{gaps};
 ghost use Rattle.sx_spec_kinds.specs.Hollow.{goes, step, walk_of};
 ghost use Rattle.sx_bits.specs.Views.{bits_of};
-ghost use Rattle.sx_hollow.specs.Tops.{IsEntryOf};
+ghost use Rattle.sx_hollow.specs.Tops.{AreKept, IsEntryOf};
 ghost use Rattle.sx_hollow.specs.Views.{sums_read};
 ghost use Rattle.sx_hollow.specs.Walks.{stand_of, walk_on};
 
 use crate::gap::gap;
 use crate::keeping::top_of;
-use crate::top::{Entry, NOT_KEPT};
+use crate::top::{Entry, HALF, NOT_KEPT, SIZE};
 use crate::walk::Stand;
 use std::alloc::{AllocError, Global};
 use std::sync::ledger::Ledger;
 use sx_bits::BitView;
 use sx_ef::view::EliasFano;
-use sx_fields::bank::WordBank;
+use sx_fields::bank::{WordBank, WordsBuf};
 use sx_steps::Steps;
 
 /// A hollow trie that answers from a bank of words.
@@ -28,12 +28,12 @@ pub struct HollowView<B: WordBank + Copy> {
     pub skip: EliasFano<B>,
     /// How many leaves there are.
     pub keys: u64,
-    /// Nodes with many leaves, read beforehand.
-    top: Vec<Entry>,
+    /// The nodes with most leaves, read beforehand.
+    top: WordsBuf,
     ghost few: { keys < 2 ^ 32 },
     ghost lefts: { length (sums_read left) ≡ max 1 keys },
     ghost skips: { length (sums_read skip) ≡ max 1 keys },
-    ghost kept: { All (IsEntryOf (gaps (sums_read left)) (gaps (sums_read skip))) top.items },
+    ghost kept: { AreKept (gaps (sums_read left)) (gaps (sums_read skip)) top.words.items },
 }
 
 impl<B: WordBank + Copy> HollowView<B> {
@@ -60,7 +60,7 @@ impl<B: WordBank + Copy> HollowView<B> {
             left,
             skip,
             keys,
-            top,
+            top: WordsBuf::new(top),
         })
     }
 
@@ -90,7 +90,7 @@ impl<B: WordBank + Copy> HollowView<B> {
         if at.leaves == 1 { Some(at.first) } else { None }
     }
 
-    /// The step of a walk from an inner node, or none where the walk is lost. At most 152 words are
+    /// The step of a walk from an inner node, or none where the walk is lost. At most 156 words are
     /// read.
     #[inline(always)]
     fn step<L: Ledger>(&self, at: &Stand, view: &BitView<'_>, steps: &mut Steps<L>) -> Option<Stand>
@@ -106,7 +106,7 @@ impl<B: WordBank + Copy> HollowView<B> {
         ensures farther { IfSome result (λ s. at.now.pos < s.pos) }
         ensures short { IfSome result (λ s. s.pos ≤ length (bits_of view.now)) }
         ensures counted { steps.old ≤ steps.new }
-        ensures cost { steps.new ≤ steps.old + 152 }
+        ensures cost { steps.new ≤ steps.old + 156 }
     {
         let entry = self.entry(at, steps);
         let next = at.descend(entry.left, entry.skip, view)?;
@@ -118,8 +118,30 @@ impl<B: WordBank + Copy> HollowView<B> {
         Some(Stand { place, ..next })
     }
 
-    /// The numbers of the inner node at which a walk stands: they are kept, or at most 152 words are
-    /// read.
+    /// What is kept of the inner node at which a walk stands, if it is kept. At most 4 words are read.
+    #[inline(always)]
+    fn kept<L: Ledger>(&self, at: &Stand, steps: &mut Steps<L>) -> Option<Entry>
+        ensures node { IfSome result (λ e. e.node ≡ at.now.node) }
+        ensures numbers { IfSome result (IsEntryOf (gaps (sums_read self.now.left))
+            (gaps (sums_read self.now.skip))) }
+        ensures counted { steps.old ≤ steps.new }
+        ensures cost { steps.new ≤ steps.old + 4 }
+    {
+        let first = SIZE * at.place as usize;
+        if first + 3 >= self.top.words() || self.top.word(first, steps) != at.node {
+            return None;
+        }
+        let places = self.top.word(first + 3, steps);
+        Some(Entry {
+            node: at.node,
+            left: self.top.word(first + 1, steps),
+            skip: self.top.word(first + 2, steps),
+            zero: (places % HALF) as u32,
+            one: (places / HALF) as u32,
+        })
+    }
+
+    /// The numbers of the inner node at which a walk stands. At most 156 words are read.
     #[inline(always)]
     fn entry<L: Ledger>(&self, at: &Stand, steps: &mut Steps<L>) -> Entry
         requires more { 1 < at.now.leaves }
@@ -128,13 +150,10 @@ impl<B: WordBank + Copy> HollowView<B> {
         ensures numbers { IsEntryOf (gaps (sums_read self.now.left))
             (gaps (sums_read self.now.skip)) result }
         ensures counted { steps.old ≤ steps.new }
-        ensures cost { steps.new ≤ steps.old + 152 }
+        ensures cost { steps.new ≤ steps.old + 156 }
     {
-        if at.place < self.top.len() {
-            let entry = self.top[at.place];
-            if entry.node == at.node {
-                return entry;
-            }
+        if let Some(entry) = self.kept(at, steps) {
+            return entry;
         }
         Entry {
             node: at.node,

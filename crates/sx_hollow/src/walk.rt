@@ -20,7 +20,7 @@ pub(crate) struct Stand {
     /// How many bits of the string led there.
     pub(crate) pos: u32,
     /// Where the node is kept, if it is.
-    pub(crate) place: usize,
+    pub(crate) place: u32,
 }
 
 impl Stand {
