@@ -2,3 +2,4 @@ pub mod Descents
 pub mod Gaps
 pub mod Rest
 pub mod NodeNumbers
+pub mod Tops

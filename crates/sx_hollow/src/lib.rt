@@ -2,7 +2,10 @@
 //! many bits it skips, and the walk of a string by these numbers.
 #![tactic(auto)]
 
+mod gap;
+mod keeping;
 mod lists;
+mod top;
 mod view;
 mod walk;
 

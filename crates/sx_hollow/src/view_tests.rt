@@ -1,4 +1,5 @@
-//! Walks over the lists of three keys, over lists of no trie, and where there is one key or none.
+//! Walks over the lists of three keys, over lists of no trie, over lists of which the first nodes are
+//! kept, and where there is one key or none.
 
 ghost use Rattle.std.specs.Prelude.{◌≡◌, ◌+◌, ◌<◌, ◌≤◌, ◌^◌, ℕ, length, slice_index};
 ghost use Rattle.sx_spec.specs.Fields.{below_of};
@@ -51,11 +52,12 @@ fn walk_counted<L: Ledger>(
     let (Ok(left), Ok(skip)) = (sums_check(lists.0, 0, count), sums_check(lists.1, 0, count)) else {
         return Ok(NO_LISTS);
     };
-    let view = HollowView::new(
+    let view = HollowView::over(
+        alloc,
         EliasFano::over(alloc, Words::new(lists.0), left.body, count, left.below)?,
         EliasFano::over(alloc, Words::new(lists.1), skip.body, count, skip.below)?,
         keys,
-    );
+    )?;
     Ok(view.answer(&BitView::key_bits(line), &mut steps))
 }
 
@@ -119,6 +121,44 @@ fn one_key_or_none(rt: HostRuntime) -> Result<(), Fail> {
         assert!(rt; line.len() < 20);
         assert_eq!(rt; walk(rt.alloc(), &sums, &sums, 0, line)?, None);
         assert_eq!(rt; walk(rt.alloc(), &sums, &sums, 1, line)?, Some(0));
+    }
+    Ok(())
+}
+
+#[test]
+fn kept_nodes(rt: HostRuntime) -> Result<(), Fail> {
+    // 256 leaves without a skip: the root's right child is the last one, and below its left child each
+    // left child is a leaf; so the sums are 0, 255, 256 and so on
+    const EVEN: u64 = 0x5555_5555_5555_5555;
+    let left = [
+        256,
+        510,
+        1,
+        0,
+        0,
+        0,
+        EVEN,
+        EVEN,
+        EVEN,
+        EVEN,
+        EVEN,
+        EVEN,
+        EVEN,
+        EVEN >> 2,
+    ];
+    let skip = [256, 1, u64::MAX, u64::MAX, u64::MAX, u64::MAX];
+    let rows: [(&[u8], u64); 7] = [
+        (b"", 0),
+        (b"\x80", 255),
+        (b"\x40", 1),
+        (b"\x60", 2),
+        (b"\x70", 3),
+        (b"\x7f\x80", 8),
+        (b"\x7f\xff\xff\xff\xff\xff\xff\xff", 63),
+    ];
+    for (line, want) in rows {
+        assert!(rt; line.len() < 20);
+        assert_eq!(rt; walk(rt.alloc(), &left, &skip, 256, line)?, Some(want));
     }
     Ok(())
 }

@@ -5,6 +5,7 @@ ghost use Rattle.sx_spec_kinds.specs.Hollow.{child, descend, goes};
 ghost use Rattle.sx_bits.specs.Views.{bits_of};
 ghost use Rattle.sx_hollow.specs.Walks.{stand_of, walk_on};
 
+use crate::top::NOT_KEPT;
 use sx_bits::BitView;
 
 /// Where a walk stands: at a node or at a leaf, from leaf `first` on, after `pos` bits of the string.
@@ -18,6 +19,8 @@ pub(crate) struct Stand {
     pub(crate) first: u64,
     /// How many bits of the string led there.
     pub(crate) pos: u32,
+    /// Where the node is kept, if it is.
+    pub(crate) place: u32,
 }
 
 impl Stand {
@@ -37,6 +40,7 @@ impl Stand {
                 leaves: self.leaves - left,
                 first: self.first + left,
                 pos: place + 1,
+                place: NOT_KEPT,
             }
         } else {
             Stand {
@@ -44,6 +48,7 @@ impl Stand {
                 leaves: left,
                 first: self.first,
                 pos: place + 1,
+                place: NOT_KEPT,
             }
         }
     }

@@ -1,7 +1,7 @@
 use Rattle.std.proofs.Common.{◌-◌, sym, ◌∙◌}
 use Rattle.sx_hollow.specs.Views.{sums_read}
 use Rattle.sx_hollow.proofs.Gaps.{gap_at}
-use Rattle.sx_hollow.proofs.view.gap.Goals as goal
+use Rattle.sx_hollow.proofs.gap.gap.Goals as goal
 
 pub returns-clause-value : goal.returns-clause-value
 returns-clause-value g c =
