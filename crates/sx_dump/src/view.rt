@@ -127,7 +127,7 @@ fn hollow_view<B: WordBank + Copy>(
     let left = sums_at(alloc, bank, opened, 0)?;
     let skip = sums_at(alloc, bank, opened, 1)?;
     let keys = u64::from(opened.header.keys);
-    Ok(HollowView::new(left, skip, keys))
+    HollowView::over(alloc, left, skip, keys)
 }
 
 /// What answers for the dump in a bank of words that were opened.
