@@ -95,7 +95,12 @@ pub fn serve<B: WordBank + Copy, S: Source, O: Sink, L: Ledger>(
     steps: &mut Steps<L>,
 ) -> Served
     requires fresh { reader.old ≡ record {
-      max = longest_line; number = 0; held = []; ended = false; fault = None; line = None;
+      max = longest_line;
+      number = 0;
+      held = [];
+      ended = false;
+      fault = None;
+      line = None;
     } }
     requires empty { replies.old ≡ [] }
     ensures served { ServedTo (dump_in (B.words_of dump.now.bank))

@@ -91,9 +91,14 @@ fn top_counted<B: WordBank + Copy, L: Ledger>(
     let most = (nodes / SHARE) as usize;
     let mut words = Vec::new(alloc);
     let mut many = nodes / SHARE;
-    // there are more nodes the fewer leaves they need have, up to as many as may be kept
-    while many >= SHARE && words.len() < SIZE * most {
-        words = rows_from_root(alloc, left, skip, nodes, most, many, &mut steps)?;
+    // there are more nodes the fewer leaves they need have
+    while many >= SHARE {
+        let more = rows_from_root(alloc, left, skip, nodes, most, many, &mut steps)?;
+        // rows that are cut off leave out nodes with more leaves than others that they have
+        if more.len() >= SIZE * most && !words.is_empty() {
+            break;
+        }
+        words = more;
         many /= 2;
     }
     Ok(words)
