@@ -15,16 +15,17 @@ use sx_spec::{Kind, OptionName};
 const KINDS: [Kind; 4] = [Kind::Func, Kind::Lcp, Kind::Lcp2, Kind::Hollow];
 
 /// The options of `build`.
-const OPTIONS: [OptionName; 5] = [
+const OPTIONS: [OptionName; 6] = [
     OptionName::Seeds,
     OptionName::Method,
     OptionName::LogBucket,
     OptionName::SigBits,
+    OptionName::Signed,
     OptionName::Values,
 ];
 
 /// The greatest signed width.
-const SIGNED: u32 = 0;
+const SIGNED: u32 = 64;
 
 /// The kinds that are offered.
 pub fn kinds() -> &'static [Kind]

@@ -24,9 +24,9 @@ fn what_kinds_use(rt: HostRuntime) {
 #[test]
 fn what_is_offered(rt: HostRuntime) {
     assert!(rt; offers_kind(Kind::Lcp2) && !offers_kind(Kind::Zfast));
-    assert!(rt; offers_option(OptionName::LogBucket) && !offers_option(OptionName::Signed));
+    assert!(rt; offers_option(OptionName::Signed) && !offers_option(OptionName::HandleBits));
     for kind in kinds() {
         assert!(rt; offers_kind(*kind));
     }
-    assert_eq!(rt; signed(), 0);
+    assert_eq!(rt; signed(), 64);
 }

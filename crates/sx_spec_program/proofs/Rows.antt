@@ -19,15 +19,20 @@ word_examples = record {
   no_blocks = refl;
   no_values = refl;
   no_method = refl;
+  no_width = refl;
+  wide = refl;
+  signed_values = refl;
+  no_values_first = refl;
   plain = refl;
   seeds = refl;
   blocks = refl;
   plain_blocks = refl;
   plain_hollow = refl;
+  signed = refl;
   query_words = refl;
   dump_words = refl;
 }
 
 pub open_examples : OpenExamples
 unfolding numbers.binary_digits first.least_from numbers.lowest_digits
-open_examples = record { hollow = refl; kind = refl; signed = refl }
+open_examples = record { hollow = refl; kind = refl; signed = refl; wide = refl; kept = refl }

@@ -1,11 +1,11 @@
 -- Worked examples of what a program that offers a part of the whole reads and opens.
-use Rattle.std.specs.Prelude.{◌≡◌, ℕ, List, [], ◌∷◌, ◌++◌, None, Some, Ok, Err, codes}
+use Rattle.std.specs.Prelude.{◌≡◌, ℕ, List, [], ◌∷◌, None, Err, codes}
 use Rattle.std.specs.Result.{result_err}
 use Rattle.sx_spec_kinds.specs.declared.Kind.{Kind}
 use Rattle.sx_spec_kinds.specs.declared.Kind.TheVariants.{Func, Lcp, Lcp2, Hollow}
-use Rattle.sx_spec.specs.declared.Method.TheVariants.{Mwhc, Gov3}
-use Rattle.sx_spec.specs.declared.OptionName.TheVariants.{Method as MethodName, LogBucket, SigBits, Values}
-use Rattle.sx_spec.specs.declared.Rule.TheVariants.{NoCommand, UnknownCommand, BadWords, UnknownKind, BadValue, DoesNotGo}
+use Rattle.sx_spec.specs.declared.Method.TheVariants.{Mwhc}
+use Rattle.sx_spec.specs.declared.OptionName.TheVariants.{Method as MethodName, LogBucket, SigBits, Signed as SignedName, Values}
+use Rattle.sx_spec.specs.declared.Rule.TheVariants.{NoCommand, UnknownCommand, BadWords, UnknownKind, BadValue, DoesNotGo, SignedAndValues}
 use Rattle.sx_spec.specs.Command.{Text, Task, BuildTask, usage, build, query, show_dump}
 use Rattle.sx_spec.specs.Layout.{words_bytes, magic}
 use Rattle.sx_spec_program.specs.Offer.{offered, opened_by}
@@ -24,6 +24,12 @@ builds kind log_bucket seeds bits = record {
   dump = codes "D";
 }
 
+-- the same where so many bits of each key's signature are kept, of a kind without blocks
+abbrev pub builds_signed : Kind → ℕ → List ℕ → ℕ → BuildTask
+builds_signed kind signed seeds bits =
+    let plain = builds kind 0 seeds bits in
+    record plain { plan = record plain.plan { signed = signed } }
+
 -- which words are refused, and by which rule
 pub record WordExamples : Type 0 where
   pub none : reads [] ≡ usage NoCommand
@@ -31,7 +37,7 @@ pub record WordExamples : Type 0 where
   pub not_offered : reads (codes "trial" ∷ codes "func" ∷ codes "3" ∷ []) ≡ usage UnknownCommand
   pub too_few : reads (codes "build" ∷ codes "lcp" ∷ []) ≡ usage BadWords
   pub twice : reads (codes "build" ∷ codes "lcp" ∷ codes "D" ∷ codes "--seeds" ∷ codes "1" ∷ codes "--seeds" ∷ codes "2" ∷ []) ≡ usage BadWords
-  pub option_not_offered : reads (codes "build" ∷ codes "tree" ∷ codes "D" ∷ codes "--signed" ∷ codes "8" ∷ []) ≡ usage BadWords
+  pub option_not_offered : reads (codes "build" ∷ codes "tree" ∷ codes "D" ∷ codes "--handle-bits" ∷ codes "8" ∷ []) ≡ usage BadWords
   pub no_kind : reads (codes "build" ∷ codes "tree" ∷ codes "D" ∷ []) ≡ usage UnknownKind
   pub kind_not_offered : reads (codes "build" ∷ codes "hollowdist" ∷ codes "D" ∷ codes "--sig-bits" ∷ codes "193" ∷ []) ≡ usage UnknownKind
   pub bad_value : reads (codes "build" ∷ codes "func" ∷ codes "D" ∷ codes "--sig-bits" ∷ codes "193" ∷ []) ≡ usage (BadValue SigBits)
@@ -39,16 +45,21 @@ pub record WordExamples : Type 0 where
   pub no_blocks : reads (codes "build" ∷ codes "func" ∷ codes "D" ∷ codes "--log-bucket" ∷ codes "3" ∷ []) ≡ usage (DoesNotGo LogBucket Func)
   pub no_values : reads (codes "build" ∷ codes "lcp" ∷ codes "D" ∷ codes "--values" ∷ codes "f" ∷ []) ≡ usage (DoesNotGo Values Lcp)
   pub no_method : reads (codes "build" ∷ codes "hollow" ∷ codes "D" ∷ codes "--method" ∷ codes "mwhc" ∷ []) ≡ usage (DoesNotGo MethodName Hollow)
+  pub no_width : reads (codes "build" ∷ codes "hollow" ∷ codes "D" ∷ codes "--signed" ∷ codes "0" ∷ []) ≡ usage (BadValue SignedName)
+  pub wide : reads (codes "build" ∷ codes "lcp" ∷ codes "D" ∷ codes "--signed" ∷ codes "65" ∷ []) ≡ usage (BadValue SignedName)
+  pub signed_values : reads (codes "build" ∷ codes "func" ∷ codes "D" ∷ codes "--signed" ∷ codes "8" ∷ codes "--values" ∷ codes "V" ∷ []) ≡ usage SignedAndValues
+  pub no_values_first : reads (codes "build" ∷ codes "lcp" ∷ codes "D" ∷ codes "--signed" ∷ codes "8" ∷ codes "--values" ∷ codes "V" ∷ []) ≡ usage (DoesNotGo Values Lcp)
   pub plain : reads (codes "build" ∷ codes "func" ∷ codes "D" ∷ []) ≡ build (builds Func 0 (0 ∷ 1 ∷ 2 ∷ 3 ∷ []) 192)
   pub seeds : reads (codes "build" ∷ codes "func" ∷ codes "--seeds=7,8" ∷ codes "D" ∷ codes "--sig-bits" ∷ codes "0" ∷ []) ≡ build (builds Func 0 (7 ∷ 8 ∷ []) 0)
   pub blocks : reads (codes "build" ∷ codes "lcp" ∷ codes "D" ∷ codes "--log-bucket" ∷ codes "3" ∷ []) ≡ build (builds Lcp 3 (0 ∷ 1 ∷ 2 ∷ 3 ∷ []) 192)
   pub plain_blocks : reads (codes "build" ∷ codes "lcp2" ∷ codes "D" ∷ []) ≡ build (builds Lcp2 5 (0 ∷ 1 ∷ 2 ∷ 3 ∷ []) 192)
   pub plain_hollow : reads (codes "build" ∷ codes "hollow" ∷ codes "D" ∷ []) ≡ build (builds Hollow 0 (0 ∷ 1 ∷ 2 ∷ 3 ∷ []) 192)
+  pub signed : reads (codes "build" ∷ codes "hollow" ∷ codes "D" ∷ codes "--signed" ∷ codes "64" ∷ []) ≡ build (builds_signed Hollow 64 (0 ∷ 1 ∷ 2 ∷ 3 ∷ []) 192)
   pub query_words : reads (codes "query" ∷ codes "D" ∷ []) ≡ query (codes "D")
   pub dump_words : reads (codes "dump" ∷ codes "D" ∷ []) ≡ show_dump (codes "D")
 
--- the words of an empty hollow dump, of the header of a dump of a kind that isn't offered, and of an empty function with a signed
--- width
+-- the words of an empty hollow dump, of the header of a dump of a kind that isn't offered, of an empty function with a signed width
+-- and without the list that is kept, of the same with a width that is too large, and of the same with the list
 abbrev pub hollow_words : List ℕ
 hollow_words = magic ∷ 16 ∷ 3 ∷ 0 ∷ 0 ∷ 0 ∷ 192 ∷ 0 ∷ 0 ∷ 0 ∷ 1 ∷ 1 ∷ 1 ∷ 1 ∷ 1 ∷ 1 ∷ []
 
@@ -58,8 +69,16 @@ other_words = magic ∷ 10 ∷ 4 ∷ 0 ∷ 0 ∷ 0 ∷ 192 ∷ 0 ∷ 0 ∷ 0 ∷
 abbrev pub signed_words : List ℕ
 signed_words = magic ∷ 14 ∷ 0 ∷ 0 ∷ 0 ∷ 0 ∷ 192 ∷ 0 ∷ 8 ∷ 0 ∷ 0 ∷ 0 ∷ 0 ∷ 0 ∷ []
 
+abbrev pub wide_words : List ℕ
+wide_words = magic ∷ 14 ∷ 0 ∷ 0 ∷ 0 ∷ 0 ∷ 192 ∷ 0 ∷ 65 ∷ 0 ∷ 0 ∷ 0 ∷ 0 ∷ 0 ∷ []
+
+abbrev pub kept_words : List ℕ
+kept_words = magic ∷ 16 ∷ 0 ∷ 0 ∷ 0 ∷ 0 ∷ 192 ∷ 0 ∷ 8 ∷ 0 ∷ 0 ∷ 0 ∷ 0 ∷ 0 ∷ 0 ∷ 8 ∷ []
+
 -- which dumps are opened, and which aren't
 pub record OpenExamples : Type 0 where
   pub hollow : result_err (opened_by sux_offer (words_bytes hollow_words)) ≡ None
   pub kind : opened_by sux_offer (words_bytes other_words) ≡ Err 4
-  pub signed : opened_by sux_offer (words_bytes signed_words) ≡ Err 9
+  pub signed : opened_by sux_offer (words_bytes signed_words) ≡ Err 11
+  pub wide : opened_by sux_offer (words_bytes wide_words) ≡ Err 9
+  pub kept : result_err (opened_by sux_offer (words_bytes kept_words)) ≡ None

@@ -1,5 +1,5 @@
 -- A program that offers a part of the whole: what its words stand for, and which dumps it opens.
-use Rattle.std.specs.Prelude.{ℕ, Bool, ◌&&◌, true, List, [], ◌∷◌, length, map, Some, None, Option, Result, Ok, Err, nat_le, ◌==◌, if◌then◌else◌, codes, not}
+use Rattle.std.specs.Prelude.{ℕ, Bool, ◌&&◌, true, List, [], ◌∷◌, map, Some, None, Option, Result, Err, nat_le, ◌==◌, if◌then◌else◌, codes, not}
 use Rattle.std.specs.List.{list_all, list_any}
 use Rattle.std.specs.Str.{bytes_eq}
 use Rattle.sx_spec_kinds.specs.declared.Kind.{Kind}

@@ -1,11 +1,11 @@
 -- What this program offers, and the program that offers so much.
-use Rattle.std.specs.Prelude.{◌≡◌, ◌≤◌, ℕ, true, false, List, [], ◌∷◌, Option, option_map, codes}
+use Rattle.std.specs.Prelude.{◌≡◌, ◌≢◌, ◌≤◌, ℕ, true, false, List, [], ◌∷◌, Option, None, option_map, codes}
 use Rattle.std.specs.Result.{result_err}
 use Rattle.sx_spec_kinds.specs.declared.Kind.TheVariants.{Func, Lcp, Lcp2, Hollow}
 use Rattle.sx_spec.specs.declared.Method.TheVariants.{Mwhc}
-use Rattle.sx_spec.specs.declared.OptionName.TheVariants.{Seeds, Method as MethodName, LogBucket, SigBits, Values}
+use Rattle.sx_spec.specs.declared.OptionName.TheVariants.{Seeds, Method as MethodName, LogBucket, SigBits, Signed, Values}
 use Rattle.sx_spec.specs.declared.Plan.{Plan}
-use Rattle.sx_spec.specs.Command.{Text}
+use Rattle.sx_spec.specs.Command.{Text, BuildTask}
 use Rattle.sx_spec.specs.Keys.{standard_limits}
 use Rattle.sx_spec.specs.Kinds.{uses_buckets, uses_method}
 use Rattle.sx_spec.specs.Messages.{key_text, seeds_text, check_text, fault_text}
@@ -14,13 +14,13 @@ use Rattle.sx_spec.specs.Parts.{least_width}
 use Rattle.sx_spec_program.specs.Offer.{Offer, offered, offers_kind, opened_by}
 
 -- what sux offers: static functions with values, the kinds lcp and lcp2 in blocks, and hollow tries; functions are built by either
--- method, and nothing has a signed width
+-- method, and each kind may be signed
 abbrev pub sux_offer : Offer
 sux_offer = record {
   commands = codes "build" ∷ codes "query" ∷ codes "open" ∷ codes "dump" ∷ [];
   kinds = Func ∷ Lcp ∷ Lcp2 ∷ Hollow ∷ [];
-  options = Seeds ∷ MethodName ∷ LogBucket ∷ SigBits ∷ Values ∷ [];
-  signed = 0;
+  options = Seeds ∷ MethodName ∷ LogBucket ∷ SigBits ∷ Signed ∷ Values ∷ [];
+  signed = 64;
 }
 
 -- the plan of a dump that this program builds: what it offers, in the ranges of the options, and 0 where an option doesn't go with
@@ -33,6 +33,11 @@ pub record IsOfferedPlan (plan : Plan) : Type 0 where
   pub no_buckets : uses_buckets plan.kind ≡ false → plan.log_bucket ≡ 0
   pub handles : plan.handle_bits ≡ 0
   pub bits : plan.sig_bits ≤ 192
+
+-- what a build of this program asks for: a plan that is offered, and values of a file only without a signed width
+pub record IsOfferedBuild (b : BuildTask) : Type 0 where
+  pub plan : IsOfferedPlan b.plan
+  pub values : b.plan.signed ≢ 0 → b.values ≡ None
 
 -- what is told of the first check that the bytes of a file fail
 abbrev pub offered_fault : Offer → List ℕ → Option Text

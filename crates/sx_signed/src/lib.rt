@@ -1,0 +1,8 @@
+//! Signed maps: at each place some bits of the key's signature are kept, by which most strangers are told.
+#![tactic(auto)]
+
+mod keeping;
+mod view;
+
+pub use keeping::keep;
+pub use view::agrees;
