@@ -1,9 +1,10 @@
 //! Dumps as words, put together from keys and values: one module for each kind.
 #![tactic(auto)]
 
-ghost use Rattle.std.specs.Prelude.{◌≡◌, ◌<◌, ◌≤◌, IfOk, MatchResult, length};
+ghost use Rattle.std.specs.Prelude.{◌≡◌, ◌≢◌, ◌<◌, ◌≤◌, IfOk, MatchResult, length};
 ghost use Rattle.sx_sections.specs.Headers.{header_as};
 ghost use Rattle.sx_spec_program.specs.Program.{IsOfferedPlan};
+ghost use Rattle.sx_spec.specs.Values.{plain_values};
 ghost use Rattle.sx_bits.specs.KeyLists.{IsKeyList};
 ghost use Rattle.sx_assemble.specs.Assembling.{IsAssembled};
 ghost use Rattle.sx_assemble.specs.Sectioning.{AreLaidOut, IsFinished, header_for};
@@ -87,8 +88,9 @@ fn finished(
 
 /// Builds what the plan's kind keeps of the keys, and lays out its dump in words, or tells why the
 /// seed doesn't work. There are as many values as keys: a static function gives each key its
-/// value, in as many bits as the greatest has, and the other kinds don't look at them. The steps are
-/// for reads of words, of which these kinds take none.
+/// value, in as many bits as the greatest has, and the other kinds don't look at them. With a signed
+/// width the values are the keys' numbers. The steps are for reads of words, of which these kinds take
+/// none.
 ///
 /// # Errors
 ///
@@ -103,6 +105,8 @@ pub fn assemble<L: Ledger>(
 ) -> Result<Assembled, AllocError>
     requires plan { IsOfferedPlan plan.now }
     requires values { length values.now ≡ length keys.now.lines }
+    requires ranks { plan.now.signed ≢ 0
+        → values.now ≡ plain_values (length keys.now.lines) }
     ensures assembled { IfOk result (IsAssembled keys.now.lines values.now plan.now seed) }
     ensures counted { _steps.old ≤ _steps.new }
 {
