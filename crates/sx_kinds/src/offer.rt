@@ -12,7 +12,13 @@ use crate::options::same_option;
 use sx_spec::{Kind, OptionName};
 
 /// The kinds that are built and opened.
-const KINDS: [Kind; 4] = [Kind::Func, Kind::Lcp, Kind::Lcp2, Kind::Hollow];
+const KINDS: [Kind; 5] = [
+    Kind::Func,
+    Kind::Lcp,
+    Kind::Lcp2,
+    Kind::Hollow,
+    Kind::HollowDist,
+];
 
 /// The options of `build`.
 const OPTIONS: [OptionName; 6] = [

@@ -28,6 +28,7 @@ word_examples = record {
   blocks = refl;
   plain_blocks = refl;
   plain_hollow = refl;
+  plain_hollow_dist = refl;
   signed = refl;
   query_words = refl;
   dump_words = refl;

@@ -2,7 +2,7 @@
 use Rattle.std.specs.Prelude.{◌≡◌, ℕ, List, [], ◌∷◌, None, Err, codes}
 use Rattle.std.specs.Result.{result_err}
 use Rattle.sx_spec_kinds.specs.declared.Kind.{Kind}
-use Rattle.sx_spec_kinds.specs.declared.Kind.TheVariants.{Func, Lcp, Lcp2, Hollow}
+use Rattle.sx_spec_kinds.specs.declared.Kind.TheVariants.{Func, Lcp, Lcp2, Hollow, HollowDist}
 use Rattle.sx_spec.specs.declared.Method.TheVariants.{Mwhc}
 use Rattle.sx_spec.specs.declared.OptionName.TheVariants.{Method as MethodName, LogBucket, SigBits, Signed as SignedName, Values}
 use Rattle.sx_spec.specs.declared.Rule.TheVariants.{NoCommand, UnknownCommand, BadWords, UnknownKind, BadValue, DoesNotGo, SignedAndValues}
@@ -39,7 +39,7 @@ pub record WordExamples : Type 0 where
   pub twice : reads (codes "build" ∷ codes "lcp" ∷ codes "D" ∷ codes "--seeds" ∷ codes "1" ∷ codes "--seeds" ∷ codes "2" ∷ []) ≡ usage BadWords
   pub option_not_offered : reads (codes "build" ∷ codes "tree" ∷ codes "D" ∷ codes "--handle-bits" ∷ codes "8" ∷ []) ≡ usage BadWords
   pub no_kind : reads (codes "build" ∷ codes "tree" ∷ codes "D" ∷ []) ≡ usage UnknownKind
-  pub kind_not_offered : reads (codes "build" ∷ codes "hollowdist" ∷ codes "D" ∷ codes "--sig-bits" ∷ codes "193" ∷ []) ≡ usage UnknownKind
+  pub kind_not_offered : reads (codes "build" ∷ codes "zfast" ∷ codes "D" ∷ codes "--sig-bits" ∷ codes "193" ∷ []) ≡ usage UnknownKind
   pub bad_value : reads (codes "build" ∷ codes "func" ∷ codes "D" ∷ codes "--sig-bits" ∷ codes "193" ∷ []) ≡ usage (BadValue SigBits)
   pub large_blocks : reads (codes "build" ∷ codes "lcp2" ∷ codes "D" ∷ codes "--log-bucket" ∷ codes "13" ∷ []) ≡ usage (BadValue LogBucket)
   pub no_blocks : reads (codes "build" ∷ codes "func" ∷ codes "D" ∷ codes "--log-bucket" ∷ codes "3" ∷ []) ≡ usage (DoesNotGo LogBucket Func)
@@ -54,6 +54,7 @@ pub record WordExamples : Type 0 where
   pub blocks : reads (codes "build" ∷ codes "lcp" ∷ codes "D" ∷ codes "--log-bucket" ∷ codes "3" ∷ []) ≡ build (builds Lcp 3 (0 ∷ 1 ∷ 2 ∷ 3 ∷ []) 192)
   pub plain_blocks : reads (codes "build" ∷ codes "lcp2" ∷ codes "D" ∷ []) ≡ build (builds Lcp2 5 (0 ∷ 1 ∷ 2 ∷ 3 ∷ []) 192)
   pub plain_hollow : reads (codes "build" ∷ codes "hollow" ∷ codes "D" ∷ []) ≡ build (builds Hollow 0 (0 ∷ 1 ∷ 2 ∷ 3 ∷ []) 192)
+  pub plain_hollow_dist : reads (codes "build" ∷ codes "hollowdist" ∷ codes "D" ∷ codes "--method" ∷ codes "mwhc" ∷ []) ≡ build (builds HollowDist 5 (0 ∷ 1 ∷ 2 ∷ 3 ∷ []) 192)
   pub signed : reads (codes "build" ∷ codes "hollow" ∷ codes "D" ∷ codes "--signed" ∷ codes "64" ∷ []) ≡ build (builds_signed Hollow 64 (0 ∷ 1 ∷ 2 ∷ 3 ∷ []) 192)
   pub query_words : reads (codes "query" ∷ codes "D" ∷ []) ≡ query (codes "D")
   pub dump_words : reads (codes "dump" ∷ codes "D" ∷ []) ≡ show_dump (codes "D")
@@ -64,7 +65,7 @@ abbrev pub hollow_words : List ℕ
 hollow_words = magic ∷ 16 ∷ 3 ∷ 0 ∷ 0 ∷ 0 ∷ 192 ∷ 0 ∷ 0 ∷ 0 ∷ 1 ∷ 1 ∷ 1 ∷ 1 ∷ 1 ∷ 1 ∷ []
 
 abbrev pub other_words : List ℕ
-other_words = magic ∷ 10 ∷ 4 ∷ 0 ∷ 0 ∷ 0 ∷ 192 ∷ 0 ∷ 0 ∷ 0 ∷ []
+other_words = magic ∷ 10 ∷ 5 ∷ 0 ∷ 0 ∷ 0 ∷ 192 ∷ 0 ∷ 0 ∷ 0 ∷ []
 
 abbrev pub signed_words : List ℕ
 signed_words = magic ∷ 14 ∷ 0 ∷ 0 ∷ 0 ∷ 0 ∷ 192 ∷ 0 ∷ 8 ∷ 0 ∷ 0 ∷ 0 ∷ 0 ∷ 0 ∷ []

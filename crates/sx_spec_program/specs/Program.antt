@@ -1,7 +1,7 @@
 -- What this program offers, and the program that offers so much.
 use Rattle.std.specs.Prelude.{◌≡◌, ◌≢◌, ◌≤◌, ℕ, true, false, List, [], ◌∷◌, Option, None, option_map, codes}
 use Rattle.std.specs.Result.{result_err}
-use Rattle.sx_spec_kinds.specs.declared.Kind.TheVariants.{Func, Lcp, Lcp2, Hollow}
+use Rattle.sx_spec_kinds.specs.declared.Kind.TheVariants.{Func, Lcp, Lcp2, Hollow, HollowDist}
 use Rattle.sx_spec.specs.declared.Method.TheVariants.{Mwhc}
 use Rattle.sx_spec.specs.declared.OptionName.TheVariants.{Seeds, Method as MethodName, LogBucket, SigBits, Signed, Values}
 use Rattle.sx_spec.specs.declared.Plan.{Plan}
@@ -13,12 +13,12 @@ use Rattle.sx_spec.specs.Outcomes.{Profile}
 use Rattle.sx_spec.specs.Parts.{least_width}
 use Rattle.sx_spec_program.specs.Offer.{Offer, offered, offers_kind, opened_by}
 
--- what sux offers: static functions with values, the kinds lcp and lcp2 in blocks, and hollow tries; functions are built by either
--- method, and each kind may be signed
+-- what sux offers: static functions with values, the kinds lcp, lcp2 and hollowdist in blocks, and hollow tries; functions are built
+-- by either method, and each kind may be signed
 abbrev pub sux_offer : Offer
 sux_offer = record {
   commands = codes "build" ∷ codes "query" ∷ codes "open" ∷ codes "dump" ∷ [];
-  kinds = Func ∷ Lcp ∷ Lcp2 ∷ Hollow ∷ [];
+  kinds = Func ∷ Lcp ∷ Lcp2 ∷ Hollow ∷ HollowDist ∷ [];
   options = Seeds ∷ MethodName ∷ LogBucket ∷ SigBits ∷ Signed ∷ Values ∷ [];
   signed = 64;
 }
