@@ -8,6 +8,8 @@ pub mod KeyParts
 pub mod KeySizes
 pub mod HollowDumps
 pub mod Lcp2Dumps
+pub mod KeptNumbers
 pub mod LcpDumps
 pub mod NarrowValues
+pub mod SignedEnds
 pub mod Signing
