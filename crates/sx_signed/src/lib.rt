@@ -5,4 +5,7 @@ mod keeping;
 mod view;
 
 pub use keeping::keep;
-pub use view::agrees;
+pub use view::{SignedView, agrees, where_kept};
+
+#[cfg(test)]
+mod tests;
