@@ -8,7 +8,6 @@ pub mod KeyParts
 pub mod KeySizes
 pub mod HollowDumps
 pub mod Lcp2Dumps
-pub mod KeptNumbers
 pub mod LcpDumps
 pub mod NarrowValues
 pub mod SignedEnds

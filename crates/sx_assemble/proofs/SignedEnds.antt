@@ -1,6 +1,7 @@
 -- The end of a signed dump, for any kind: behind the sections of the kind stand the numbers that are kept of the keys.
-use Rattle.std.proofs.Common.{◌≡◌, ◌≢◌, ℕ, ◌+◌, ◌*◌, ◌^◌, ◌<◌, ◌≤◌, true, false, List, [], ◌∷◌, ◌++◌, length, map, refl, sym, ap, subst, ◌∙◌, arith, inl, inr}
+use Rattle.std.proofs.Common.{◌≡◌, ◌≢◌, ℕ, ◌+◌, ◌*◌, ◌^◌, ◌<◌, ◌≤◌, true, false, List, [], ◌∷◌, ◌++◌, Result, Ok, Err, IfOk, length, map, refl, sym, ap, subst, ◌∙◌, arith, inl, inr}
 use Rattle.std.specs.Prelude.{◌==◌, flat_map}
+use Rattle.std.specs.List.{range_with_len}
 use Rattle.std.proofs.lemmas.Bool.{cases_eq, eq-eqb, ne_eqb}
 use Rattle.std.proofs.lemmas.Grind.{flat_map-append}
 use Rattle.std.proofs.lemmas.List.{append-nil, length-append, length-map, map-append}
@@ -17,12 +18,21 @@ use Rattle.sx_spec.specs.StaticFunction.{Function as FunctionOf, Part}
 use Rattle.sx_spec.proofs.FuncDumps.{all_append}
 use Rattle.sx_fields.specs.Numbers.{Numbers as NumberList}
 use Rattle.sx_static.specs.Answer.{function_of}
+use Rattle.sx_signed.specs.Keeping.{AreKept}
+use Rattle.sx_signed.proofs.KeptNumbers.{kept_in_order}
 use Rattle.sx_assemble.specs.declared.layout.SectionBuf.{SectionBuf}
 use Rattle.sx_assemble.specs.declared.layout.SectionBuf.TheVariants.{Numbers}
 use Rattle.sx_assemble.specs.Assembling.{key_signature}
 use Rattle.sx_assemble.specs.Sectioning.{AreKindSections, AreLaidOut, AreSectionsOf, AreSigned, IsWhole, header_for, held_words, section_built}
 use Rattle.sx_assemble.proofs.KeyParts.{map_map}
 use Rattle.sx_assemble.proofs.Layouts.{list_few}
+
+-- ---- the list
+
+-- what is kept at the places 0, 1, 2 and so on stands in the order of the signatures
+pub all_in_order : {E : Type 0} (width : ℕ) (sigs : List Signature) (places : List ℕ) → places ≡ range_with_len 0 (length sigs) → (r : Result NumberList E) → IfOk r (λ list. AreKept width sigs places list.items) → IfOk r (λ list. list.items ≡ map (top_bits width) sigs)
+all_in_order width sigs places in_order (Err e) kept = tt
+all_in_order width sigs places in_order (Ok list) kept = kept_in_order width sigs list.items (subst (λ (ps : List ℕ). AreKept width sigs ps list.items) in_order kept)
 
 -- ---- the sections behind those of the kind
 

@@ -16,11 +16,7 @@ use sx_sig::{Plan, Signature};
 use sx_signed::keep;
 
 /// The first `width` bits of the last word of each signature, in the order of the signatures.
-fn signature_list(
-    alloc: Global,
-    sigs: &[Signature],
-    width: u32,
-) -> Result<PackedBuf, AllocError>
+fn signature_list(alloc: Global, sigs: &[Signature], width: u32) -> Result<PackedBuf, AllocError>
     requires narrow { width ≤ 64 }
     requires few { length sigs.now < 2 ^ 32 }
     ensures width { IfOk result (λ list. list.width ≡ width) }
