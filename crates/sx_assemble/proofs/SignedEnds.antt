@@ -1,5 +1,5 @@
 -- The end of a signed dump, for any kind: behind the sections of the kind stand the numbers that are kept of the keys.
-use Rattle.std.proofs.Common.{◌≡◌, ◌≢◌, ℕ, ◌+◌, ◌*◌, ◌^◌, ◌<◌, ◌≤◌, true, false, List, [], ◌∷◌, ◌++◌, Result, Ok, Err, IfOk, length, map, refl, sym, ap, subst, ◌∙◌, arith, inl, inr}
+use Rattle.std.proofs.Common.{◌≡◌, ◌≢◌, ℕ, ◌+◌, ◌≤◌, true, false, List, [], ◌∷◌, ◌++◌, Result, Ok, Err, IfOk, length, map, refl, sym, ap, subst, ◌∙◌, arith, inl, inr}
 use Rattle.std.specs.Prelude.{◌==◌, flat_map}
 use Rattle.std.specs.List.{range_with_len}
 use Rattle.std.proofs.lemmas.Bool.{cases_eq, eq-eqb, ne_eqb}
@@ -18,16 +18,25 @@ use Rattle.sx_spec.specs.StaticFunction.{Function as FunctionOf, Part}
 use Rattle.sx_spec.proofs.FuncDumps.{all_append}
 use Rattle.sx_fields.specs.Numbers.{Numbers as NumberList}
 use Rattle.sx_static.specs.Answer.{function_of}
+use Rattle.sx_bits.specs.KeyLists.{IsKeyList, Keys}
 use Rattle.sx_signed.specs.Keeping.{AreKept}
 use Rattle.sx_signed.proofs.KeptNumbers.{kept_in_order}
 use Rattle.sx_assemble.specs.declared.layout.SectionBuf.{SectionBuf}
 use Rattle.sx_assemble.specs.declared.layout.SectionBuf.TheVariants.{Numbers}
 use Rattle.sx_assemble.specs.Assembling.{key_signature}
 use Rattle.sx_assemble.specs.Sectioning.{AreKindSections, AreLaidOut, AreSectionsOf, AreSigned, IsWhole, header_for, held_words, section_built}
+use Rattle.sx_assemble.proofs.BuiltDumps.{few_lines}
 use Rattle.sx_assemble.proofs.KeyParts.{map_map}
 use Rattle.sx_assemble.proofs.Layouts.{list_few}
 
 -- ---- the list
+
+-- the signatures of keys are few
+pub few_signatures : (list : Keys) → IsKeyList list → (seed kept : ℕ) (sigs : List Signature) → sigs ≡ map (key_signature seed kept) list.lines → length sigs ≤ 4194304
+few_signatures list are seed kept sigs signed =
+    let few = few_lines list.limits list.lines are.limits are.faultless in
+    let count = ap (λ (l : List Signature). length l) signed ∙ length-map list.lines (key_signature seed kept) in
+    omega arith
 
 -- what is kept at the places 0, 1, 2 and so on stands in the order of the signatures
 pub all_in_order : {E : Type 0} (width : ℕ) (sigs : List Signature) (places : List ℕ) → places ≡ range_with_len 0 (length sigs) → (r : Result NumberList E) → IfOk r (λ list. AreKept width sigs places list.items) → IfOk r (λ list. list.items ≡ map (top_bits width) sigs)

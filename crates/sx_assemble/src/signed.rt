@@ -15,7 +15,8 @@ use sx_fields::packed_buf::PackedBuf;
 use sx_sig::{Plan, Signature};
 use sx_signed::keep;
 
-/// The first `width` bits of the last word of each signature, in the order of the signatures.
+/// The first `width` bits of the last word of each signature, in the order of the signatures. The
+/// places, 4 bytes a key, are let go before the list is handed on.
 fn signature_list(alloc: Global, sigs: &[Signature], width: u32) -> Result<PackedBuf, AllocError>
     requires narrow { width ≤ 64 }
     requires few { length sigs.now < 2 ^ 32 }
@@ -30,7 +31,7 @@ fn signature_list(alloc: Global, sigs: &[Signature], width: u32) -> Result<Packe
 /// where the width is 0.
 pub(crate) fn with_signatures(
     alloc: Global,
-    sections: Vec<SectionBuf>,
+    mut sections: Vec<SectionBuf>,
     sigs: &[Signature],
     width: u32,
 ) -> Result<Vec<SectionBuf>, AllocError>
@@ -41,12 +42,11 @@ pub(crate) fn with_signatures(
     if width == 0 {
         return Ok(sections);
     }
-    let mut all = sections;
-    all.push(SectionBuf::Numbers(signature_list(alloc, sigs, width)?))?;
-    Ok(all)
+    sections.push(SectionBuf::Numbers(signature_list(alloc, sigs, width)?))?;
+    Ok(sections)
 }
 
-/// The same of a kind that needs no signatures itself: keys are signed only where the plan is.
+/// The same for a kind that needs no signatures itself: keys are signed only where the plan is.
 pub(crate) fn with_key_signatures(
     alloc: Global,
     sections: Vec<SectionBuf>,

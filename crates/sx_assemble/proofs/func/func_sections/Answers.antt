@@ -9,7 +9,7 @@ use Rattle.sx_assemble.specs.Sectioning.{AreKindSections}
 use Rattle.sx_assemble.proofs.BuiltDumps.{few_lines}
 use Rattle.sx_assemble.proofs.KeyParts.{func_done, func_stops}
 use Rattle.sx_assemble.proofs.PartLists.{stops_out}
-use Rattle.sx_assemble.proofs.SignedEnds.{all_sections}
+use Rattle.sx_assemble.proofs.SignedEnds.{all_sections, few_signatures}
 use Rattle.sx_assemble.proofs.func.func_sections.Goals as goal
 
 pub build_least-requires-clause-few : goal.build_least-requires-clause-few
@@ -31,10 +31,7 @@ returns-in_err-function c =
 
 pub with_signatures-requires-clause-few : goal.with_signatures-requires-clause-few
 with_signatures-requires-clause-few c =
-    let lines = c.args.keys.now.lines in
-    let keys = c.sign_keys.ensures.keys in
-    let sigs : length c.deref-2.result.now ≡ length lines = ap (λ (l : List Signature). length l) (c.deref-2.ensures.value ∙ c.in_ok-sigs.ensures.signed) ∙ length-map lines (key_signature c.args.seed c.args.plan.now.sig_bits) in
-    let few = few_lines c.args.keys.now.limits lines keys.limits keys.faultless in
+    let few = few_signatures c.args.keys.now c.sign_keys.ensures.keys c.args.seed c.args.plan.now.sig_bits c.deref-2.result.now (c.deref-2.ensures.value ∙ c.in_ok-sigs.ensures.signed) in
     omega arith
 
 pub returns : goal.returns

@@ -16,7 +16,7 @@ use Rattle.sx_assemble.proofs.CodePairs.{lens_count}
 use Rattle.sx_assemble.proofs.KeyPairs.{least_of, lengths_are}
 use Rattle.sx_assemble.proofs.LcpDumps.{lcp_done, lcp_stops_first, lcp_stops_second}
 use Rattle.sx_assemble.proofs.PartLists.{stops_out}
-use Rattle.sx_assemble.proofs.SignedEnds.{all_sections}
+use Rattle.sx_assemble.proofs.SignedEnds.{all_sections, few_signatures}
 use Rattle.sx_assemble.proofs.lcp.lcp_sections.Goals as goal
 
 pub lengths_function-requires-clause-numbers : goal.lengths_function-requires-clause-numbers
@@ -66,10 +66,7 @@ returns-in_err-prefixes c =
 
 pub with_signatures-requires-clause-few : goal.with_signatures-requires-clause-few
 with_signatures-requires-clause-few c =
-    let lines = c.args.keys.now.lines in
-    let keys = c.sign_keys.ensures.keys in
-    let sigs : length c.deref-3.result.now ≡ length lines = ap (λ (l : List Signature). length l) (c.deref-3.ensures.value ∙ c.in_ok-sigs.ensures.signed) ∙ length-map lines (key_signature c.args.seed c.args.plan.now.sig_bits) in
-    let few = few_lines c.args.keys.now.limits lines keys.limits keys.faultless in
+    let few = few_signatures c.args.keys.now c.sign_keys.ensures.keys c.args.seed c.args.plan.now.sig_bits c.deref-3.result.now (c.deref-3.ensures.value ∙ c.in_ok-sigs.ensures.signed) in
     omega arith
 
 pub returns : goal.returns

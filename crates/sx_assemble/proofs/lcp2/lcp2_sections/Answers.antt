@@ -17,7 +17,7 @@ use Rattle.sx_assemble.proofs.CodePairs.{built_codes_count, built_codes_fit, bui
 use Rattle.sx_assemble.proofs.KeyPairs.{least_of, offsets_are}
 use Rattle.sx_assemble.proofs.Lcp2Dumps.{bits_narrow, codes_of_keys, codes_part_narrow, escaped_of_keys, given_codes, given_escaped, lcp2_done, lcp2_stops_first, lcp2_stops_second, lcp2_stops_third, lcp2_stops_fourth, lens_many, sigs_count, table_is, width_narrow}
 use Rattle.sx_assemble.proofs.PartLists.{stops_out}
-use Rattle.sx_assemble.proofs.SignedEnds.{all_sections}
+use Rattle.sx_assemble.proofs.SignedEnds.{all_sections, few_signatures}
 use Rattle.sx_assemble.proofs.lcp2.lcp2_sections.Goals as goal
 
 pub two_step-requires : goal.two_step-requires
@@ -310,10 +310,7 @@ table_list-requires-clause-fit c =
 
 pub with_signatures-requires-clause-few : goal.with_signatures-requires-clause-few
 with_signatures-requires-clause-few c =
-    let lines = c.args.keys.now.lines in
-    let keys = c.sign_keys.ensures.keys in
-    let sigs : length c.deref-10.result.now ≡ length lines = ap (λ (l : List Signature). length l) (c.deref-10.ensures.value ∙ c.in_ok-sigs.ensures.signed) ∙ length-map lines (key_signature c.args.seed c.args.plan.now.sig_bits) in
-    let few = few_lines c.args.keys.now.limits lines keys.limits keys.faultless in
+    let few = few_signatures c.args.keys.now c.sign_keys.ensures.keys c.args.seed c.args.plan.now.sig_bits c.deref-10.result.now (c.deref-10.ensures.value ∙ c.in_ok-sigs.ensures.signed) in
     omega arith
 
 pub returns : goal.returns
