@@ -94,10 +94,26 @@ fn signed_keys_have_their_ranks(rt: HostRuntime) -> Result<(), Fail> {
     let line = "build lcp2 D --log-bucket 1 --signed 33";
     let told = b"keys 4 seed 0 words 37\n";
     let keys = b"a\nb\nc\nd\n";
-    answers(&rt, alloc, line, keys, told, b"d\nb\na\nc\ne\n", b"3\n1\n0\n2\n-1\n")?;
+    answers(
+        &rt,
+        alloc,
+        line,
+        keys,
+        told,
+        b"d\nb\na\nc\ne\n",
+        b"3\n1\n0\n2\n-1\n",
+    )?;
     let line = "build func D --signed 16";
     let told = b"keys 2 seed 0 words 18\n";
-    answers(&rt, alloc, line, b"a\nb\n", told, b"b\na\nz\n", b"1\n0\n-1\n")
+    answers(
+        &rt,
+        alloc,
+        line,
+        b"a\nb\n",
+        told,
+        b"b\na\nz\n",
+        b"1\n0\n-1\n",
+    )
 }
 
 #[test]
@@ -109,7 +125,15 @@ fn signed_dumps_of_no_keys(rt: HostRuntime) -> Result<(), Fail> {
         ("build hollow D --signed 8", "keys 0 seed 0 words 18\n"),
     ];
     for (line, told) in rows {
-        answers(&rt, rt.alloc(), line, b"", told.as_bytes(), b"x\n\n", b"-1\n-1\n")?;
+        answers(
+            &rt,
+            rt.alloc(),
+            line,
+            b"",
+            told.as_bytes(),
+            b"x\n\n",
+            b"-1\n-1\n",
+        )?;
     }
     Ok(())
 }
