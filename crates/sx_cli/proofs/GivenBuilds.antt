@@ -1,5 +1,5 @@
 -- What a build promises whose keys and values were read.
-use Rattle.std.proofs.Common.{◌≡◌, ◌≤◌, ℕ, List, length, arith, refl, sym, subst, ap, ◌∙◌, inl, inr, ◌⊎◌, Option, Some, None}
+use Rattle.std.proofs.Common.{◌≡◌, ◌≢◌, ◌≤◌, ℕ, List, length, arith, refl, sym, subst, ap, ◌∙◌, inl, inr, ◌⊎◌, Option, Some, None}
 use Rattle.std.specs.Prelude.{IsSome}
 use Rattle.std.specs.Io.KnownBytes.{Keeps}
 use Rattle.std.proofs.lemmas.List.FromFn.{length-range_with_len}
@@ -12,8 +12,9 @@ use Rattle.sx_spec.specs.Layout.{words_bytes}
 use Rattle.sx_spec.specs.Messages.{at_values, memory_text, key_text, values_text}
 use Rattle.sx_spec.specs.Outcomes.{GivesValues}
 use Rattle.sx_spec.specs.Run.{Promise}
+use Rattle.sx_spec.specs.Values.{plain_values}
 use Rattle.sx_spec.specs.World.{World, Files, CountsStay, KeepsFiles}
-use Rattle.sx_spec_program.specs.Program.{sux_program}
+use Rattle.sx_spec_program.specs.Program.{sux_program, IsOfferedBuild}
 use Rattle.sx_edge.specs.Kept.{KeepsFiles-trans}
 use Rattle.sx_edge.proofs.Files.{SetsFile-after_kept}
 use Rattle.sx_cli.specs.Building.{RefusesLine}
@@ -39,6 +40,10 @@ gives (Some name) keys before vs given = given.told
 pub many : (values : Option Text) (keys : ℕ) (files : Option Files) (vs : List ℕ) → Given values keys files vs → length vs ≡ keys
 many None keys files vs given = ap (λ (l : List ℕ). length l) given ∙ length-range_with_len 0 keys
 many (Some name) keys files vs given = given.as_many
+
+-- with a signed width no file of values is named, so the values are the keys' numbers
+pub numbers : (t : BuildTask) (keys : ℕ) (files : Option Files) (vs : List ℕ) → IsOfferedBuild t → Given t.values keys files vs → t.plan.signed ≢ 0 → vs ≡ plain_values keys
+numbers t keys files vs offered given width = subst (λ (v : Option Text). Given v keys files vs) (offered.values width) given
 
 module _ (t : BuildTask) (before after : World) (ticks : ℕ) (result : Status) (counts : CountsStay (is_fault result) before after) where
   -- either message is one that may come
