@@ -8,7 +8,7 @@ ghost use Rattle.sx_spec.specs.Messages.{key_text, values_text, memory_text};
 ghost use Rattle.sx_spec.specs.Run.{Promise};
 ghost use Rattle.sx_spec.specs.World.{world, KeepsFiles};
 ghost use Rattle.sx_spec_program.specs.Program.{sux_program, IsOfferedPlan};
-ghost use Rattle.sx_cli.specs.Objects.{world_of, outside_of, TellsOrWants};
+ghost use Rattle.sx_cli.specs.Objects.{world_of, world_without_input, TellsOrWants};
 ghost use Rattle.sx_cli.specs.Building.{build_of};
 ghost use Rattle.sx_text.specs.Reasons.{fault_of};
 ghost use Rattle.sx_cli.specs.Storing.{Stores, GivenEnds};
@@ -91,8 +91,8 @@ fn store<F: Shelf, O: Sink, E: Sink>(
 ) -> Status
     requires { F.in_use files.old ≡ idle }
     ensures stored { Stores name.now words.now line.now
-        (outside_of F.Shelf O.Sink E.Sink files.old out.old err.old)
-        (outside_of F.Shelf O.Sink E.Sink files.new out.new err.new)
+        (world_without_input F.Shelf O.Sink E.Sink files.old out.old err.old)
+        (world_without_input F.Shelf O.Sink E.Sink files.new out.new err.new)
         result }
     ensures closed { F.in_use files.new ≡ idle }
     ensures counts { StaysUnless (is_fault result) (F.faults files.old) (F.faults files.new) }
@@ -123,8 +123,8 @@ fn build_given<F: Shelf, O: Sink, E: Sink, L: Ledger>(
     requires values { length values.now ≡ length keys.now.lines }
     requires plan { IsOfferedPlan task.now.plan }
     ensures ends { GivenEnds (build_of task.now) keys.now.lines values.now
-        (outside_of F.Shelf O.Sink E.Sink files.old out.old err.old)
-        (outside_of F.Shelf O.Sink E.Sink files.new out.new err.new)
+        (world_without_input F.Shelf O.Sink E.Sink files.old out.old err.old)
+        (world_without_input F.Shelf O.Sink E.Sink files.new out.new err.new)
         result }
     ensures closed { F.in_use files.new ≡ idle }
     ensures counts { StaysUnless (is_fault result) (F.faults files.old) (F.faults files.new) }
