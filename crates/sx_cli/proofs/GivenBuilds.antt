@@ -13,13 +13,13 @@ use Rattle.sx_spec.specs.Messages.{at_values, memory_text, key_text, values_text
 use Rattle.sx_spec.specs.Outcomes.{GivesValues}
 use Rattle.sx_spec.specs.Run.{Promise}
 use Rattle.sx_spec.specs.Values.{plain_values}
-use Rattle.sx_spec.specs.World.{World, Files, CountsStay, KeepsFiles}
+use Rattle.sx_spec.specs.World.{World, Files, CountsStay, KeepsFiles, world}
 use Rattle.sx_spec_program.specs.Program.{sux_program, IsOfferedBuild}
 use Rattle.sx_edge.specs.Kept.{KeepsFiles-trans}
 use Rattle.sx_edge.proofs.Files.{SetsFile-after_kept}
 use Rattle.sx_cli.specs.Building.{RefusesLine}
 use Rattle.sx_cli.specs.Progress.{ReadsAll}
-use Rattle.sx_cli.specs.Storing.{Outside, GivenEnds, Stores}
+use Rattle.sx_cli.specs.Storing.{GivenEnds, Stores}
 use Rattle.sx_cli.specs.Telling.{Tells, Fails}
 use Rattle.sx_cli.specs.ValueLines.{Given, StopsGiving}
 use Rattle.sx_text.specs.Reasons.{values_fault_of}
@@ -70,11 +70,11 @@ module _ (t : BuildTask) (before after : World) (ticks : ℕ) (result : Status) 
 
   module _ (keys : List Text) (all : ReadsAll before.input after.input keys) (valid : AreKeys standard_limits keys) (vs : List ℕ) (given : Given t.values (length keys) before.files vs)
       (files : Option Files) (shelf_faults : ℕ) (kept : KeepsFiles before.files files) (later : before.faults.shelf ≤ shelf_faults) where
-    abbrev old : Outside
-    old = record { files = files; out = before.out; err = before.err; shelf_faults = shelf_faults; out_faults = before.faults.out; err_faults = before.faults.err }
+    abbrev old : World
+    old = world files None before.out before.err shelf_faults 0 before.faults.out before.faults.err
 
-    abbrev new : Outside
-    new = record { files = after.files; out = after.out; err = after.err; shelf_faults = after.faults.shelf; out_faults = after.faults.out; err_faults = after.faults.err }
+    abbrev new : World
+    new = world after.files None after.out after.err after.faults.shelf 0 after.faults.out after.faults.err
 
     -- what the keys and values come to is what is due
     pub given_ends : GivenEnds t keys vs old new result → Promise sux_program (build t) before after ticks result

@@ -9,7 +9,7 @@ ghost use Rattle.sx_spec.specs.Run.{Promise};
 ghost use Rattle.sx_spec.specs.Values.{plain_values};
 ghost use Rattle.sx_spec.specs.World.{world, KeepsFiles};
 ghost use Rattle.sx_spec_program.specs.Program.{sux_program, IsOfferedPlan, IsOfferedBuild};
-ghost use Rattle.sx_cli.specs.Objects.{world_of, outside_of, TellsOrWants};
+ghost use Rattle.sx_cli.specs.Objects.{world_of, world_without_input, TellsOrWants};
 ghost use Rattle.sx_cli.specs.Building.{build_of};
 ghost use Rattle.sx_text.specs.Reasons.{fault_of};
 ghost use Rattle.sx_cli.specs.Storing.{Stores, GivenEnds};
@@ -92,8 +92,8 @@ fn store<F: Shelf, O: Sink, E: Sink>(
 ) -> Status
     requires { F.in_use files.old ≡ idle }
     ensures stored { Stores name.now words.now line.now
-        (outside_of F.Shelf O.Sink E.Sink files.old out.old err.old)
-        (outside_of F.Shelf O.Sink E.Sink files.new out.new err.new)
+        (world_without_input F.Shelf O.Sink E.Sink files.old out.old err.old)
+        (world_without_input F.Shelf O.Sink E.Sink files.new out.new err.new)
         result }
     ensures closed { F.in_use files.new ≡ idle }
     ensures counts { StaysUnless (is_fault result) (F.faults files.old) (F.faults files.new) }
@@ -127,8 +127,8 @@ fn build_given<F: Shelf, O: Sink, E: Sink, L: Ledger>(
     requires ranks { task.now.plan.signed ≢ 0
         → values.now ≡ plain_values (length keys.now.lines) }
     ensures ends { GivenEnds (build_of task.now) keys.now.lines values.now
-        (outside_of F.Shelf O.Sink E.Sink files.old out.old err.old)
-        (outside_of F.Shelf O.Sink E.Sink files.new out.new err.new)
+        (world_without_input F.Shelf O.Sink E.Sink files.old out.old err.old)
+        (world_without_input F.Shelf O.Sink E.Sink files.new out.new err.new)
         result }
     ensures closed { F.in_use files.new ≡ idle }
     ensures counts { StaysUnless (is_fault result) (F.faults files.old) (F.faults files.new) }
