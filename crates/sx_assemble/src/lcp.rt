@@ -64,7 +64,8 @@ fn lengths_function(
     requires bucket { plan.now.log_bucket ≤ 12 }
     requires numbers { length lengths.items ≡ length sigs.now }
     requires few { length sigs.now ≤ 2 ^ 27 }
-    ensures built { let numbers = length_numbers_of (block_size plan.now.log_bucket) lengths.items in
+    ensures built { let b = block_size plan.now.log_bucket in
+        let numbers = length_numbers_of b lengths.items in
         MatchResult result
         (IsDone plan.now.method tries (least_width_of numbers) (entries_of sigs.now numbers))
         (StopsPart 0 plan.now.method (entries_of sigs.now numbers)) }

@@ -67,7 +67,8 @@ fn values_for<F: Shelf>(
     requires { F.in_use files.old ≡ idle }
     ensures values { MatchResult result
         (λ v. Given task.now.values keys (F.files files.old) v.items)
-        (StopsGiving task.now.values keys (F.files files.old) (F.faults files.old) (F.faults files.new)) }
+        (StopsGiving task.now.values keys (F.files files.old) (F.faults files.old)
+        (F.faults files.new)) }
     ensures files { KeepsFiles (F.files files.old) (F.files files.new) }
     ensures counts { StaysUnless (values_failed result) (F.faults files.old) (F.faults files.new) }
     ensures closed { F.in_use files.new ≡ idle }
