@@ -1,7 +1,9 @@
 -- From sections that are built to a dump, for any kind.
-use Rattle.std.proofs.Common.{◌≡◌, ℕ, ◌^◌, ◌<◌, ◌≤◌, List, [], length, map, Vec, Global, Result, Ok, Err, IfOk, MatchResult, refl, sym, ap, subst, arith}
+use Rattle.std.proofs.Common.{◌≡◌, ◌≢◌, ℕ, ◌^◌, ◌<◌, ◌≤◌, List, [], length, map, Vec, Global, Result, Ok, Err, IfOk, MatchResult, Some, refl, sym, ap, subst, ◌∙◌, arith}
 use Rattle.std.specs.Prelude.{flat_map}
 use Rattle.std.proofs.lemmas.List.{length-append}
+use Rattle.std.proofs.lemmas.List.FromFn.{length-range_with_len}
+use Rattle.sx_spec_kinds.specs.declared.Kind.{Kind}
 use Rattle.sx_spec.specs.declared.Limits.{Limits}
 use Rattle.sx_spec.specs.declared.Plan.{Plan}
 use Rattle.sx_spec.specs.Built.{IsBuilt}
@@ -10,7 +12,9 @@ use Rattle.sx_spec.specs.Keys.{AreKeys}
 use Rattle.sx_spec.specs.Laws.{AreBytes, IsHeader}
 use Rattle.sx_spec.specs.Layout.{Dump, Header, dump_bytes, header_words, layout, section_words}
 use Rattle.sx_spec.specs.Parts.{least_width, parts_of}
-use Rattle.sx_spec.specs.StaticFunction.{Part}
+use Rattle.sx_spec.specs.Reply.{member_numbers}
+use Rattle.sx_spec.specs.StaticFunction.{IsSeedFailure, Part}
+use Rattle.sx_spec.specs.Values.{plain_values}
 use Rattle.sx_spec.proofs.BuiltFits.{built_dumps_pass}
 use Rattle.sx_spec.proofs.KeyFiles.{faultless_lines_are_keys}
 use Rattle.sx_spec.proofs.Replies.{built_dumps_answer_members}
@@ -22,7 +26,7 @@ use Rattle.sx_assemble.specs.declared.Assembled.TheVariants.{Words, SeedFailed}
 use Rattle.sx_assemble.specs.declared.layout.SectionBuf.{SectionBuf}
 use Rattle.sx_assemble.specs.declared.parts.Stop.{Stop}
 use Rattle.sx_assemble.specs.declared.parts.Stop.TheVariants.{Memory, Part as PartStop}
-use Rattle.sx_assemble.specs.Assembling.{IsAssembled, IsDumpOf, IsFailure, tries}
+use Rattle.sx_assemble.specs.Assembling.{IsAssembled, IsDumpOf, IsFailure, failure_of, tries}
 use Rattle.sx_assemble.specs.Ranking.{IsRanked}
 use Rattle.sx_assemble.specs.Sectioning.{AreSectionsOf, IsFinished, StopsParts, header_for, section_built}
 use Rattle.sx_assemble.proofs.Layouts.{sections_laid}
@@ -36,7 +40,7 @@ few_lines limits lines standard faultless =
     let b = standard.keys in
     omega arith
 
--- keys and values that an unsigned dump is built from
+-- keys and values that a dump is built from; a signed one has no values of its own
 pub record AreSources (lines : List Text) (values : List ℕ) (seed : ℕ) (plan : Plan) : Type 0 where
   pub limits : Limits
   pub standard : IsWithinStandard limits
@@ -44,7 +48,7 @@ pub record AreSources (lines : List Text) (values : List ℕ) (seed : ℕ) (plan
   pub bytes : AreBytes lines
   pub as_many : length values ≡ length lines
   pub seed_small : seed < 2 ^ 64
-  pub unsigned : plan.signed ≡ 0
+  pub plain : plan.signed ≢ 0 → values ≡ plain_values (length lines)
   pub header : IsHeader (header_for plan lines seed)
 
 module _ (lines : List Text) (values : List ℕ) (seed : ℕ) (plan : Plan) (sources : AreSources lines values seed plan) (width : ℕ) (narrow : width ≤ 64) (sections : List SectionBuf)
@@ -84,7 +88,7 @@ module _ (lines : List Text) (values : List ℕ) (seed : ℕ) (plan : Plan) (sou
         dump = dump;
         built = subst (λ (ps : List Part). IsBuilt tries plan lines ps seed dump) same built;
         passes = built_dumps_pass sources.limits tries width seed plan lines values dump sources.faultless sources.standard.line sources.bytes (omega arith) sources.as_many narrow (omega arith) sources.seed_small sources.header built are.cells size;
-        members = built_dumps_answer_members sources.limits tries width seed plan lines values dump sources.faultless sources.bytes (omega arith) sources.as_many (λ signed. absurd (signed sources.unsigned)) built;
+        members = built_dumps_answer_members sources.limits tries width seed plan lines values dump sources.faultless sources.bytes (omega arith) sources.as_many sources.plain built;
         words_are = is;
         few = (let a = few in let b = ap (λ (l : List ℕ). length l) is in omega arith);
       }
@@ -110,13 +114,37 @@ pub all_assembled : {E : Type 0} (lines : List Text) (values : List ℕ) (seed :
 all_assembled lines values seed plan sources width narrow same r h (Err e) are for is = tt
 all_assembled lines values seed plan sources width narrow same r h (Ok a) are for is = assembled_by lines values seed plan sources width narrow same r a are (subst (λ (k : Header). IsFinished k r a) for is)
 
--- what keys come to whose parts don't depend on values
-pub all_ranked : {E : Type 0} (lines : List Text) (seed : ℕ) (plan : Plan) → ((values : List ℕ) → length values ≡ length lines → AreSources lines values seed plan) → ((width width' : ℕ) (values values' : List ℕ) → parts_of plan width lines values ≡ parts_of plan width' lines values')
+-- what keys come to with values is what they come to with others, where neither the parts nor the answers depend on them
+carried : (lines : List Text) (seed : ℕ) (plan : Plan) (values values' : List ℕ) → parts_of plan (least_width values) lines values ≡ parts_of plan (least_width values') lines values' → member_numbers plan.kind values ≡ member_numbers plan.kind values'
+    → (a : Assembled) → IsAssembled lines values plan seed a → IsAssembled lines values' plan seed a
+carried lines seed plan values values' parts numbers (Words words) is =
+    let kind : is.dump.header.plan.kind ≡ plan.kind = ap (λ (h : Header). h.plan.kind) is.built.header in
+    let moved : member_numbers is.dump.header.plan.kind values ≡ member_numbers is.dump.header.plan.kind values' =
+    subst (λ (k : Kind). member_numbers k values ≡ member_numbers k values') (sym kind) numbers in
+    record {
+      dump = is.dump;
+      built = subst (λ (ps : List Part). IsBuilt tries plan lines ps seed is.dump) parts is.built;
+      passes = is.passes;
+      members = is.members ∙ ap (λ (ns : List ℕ). map (λ n. Some n) ns) moved;
+      words_are = is.words_are;
+      few = is.few;
+    }
+carried lines seed plan values values' parts numbers (SeedFailed fault) is =
+    record { failure = subst (λ (ps : List Part). IsSeedFailure plan.method tries plan.sig_bits ps seed (failure_of fault)) parts is.failure; kinds = is.kinds }
+
+-- what keys come to whose parts and whose answers don't depend on values
+pub all_ranked : {E : Type 0} (lines : List Text) (seed : ℕ) (plan : Plan) → AreSources lines (plain_values (length lines)) seed plan → ((width width' : ℕ) (values values' : List ℕ) → parts_of plan width lines values ≡ parts_of plan width' lines values')
+    → ((values : List ℕ) → member_numbers plan.kind values ≡ plain_values (length values))
     → (r : Result (Vec SectionBuf Global) Stop) (h : Header) (o : Result Assembled E)
     → MatchResult r (λ s. AreSectionsOf plan lines seed (parts_of plan 0 lines []) s.items) (StopsParts plan seed (parts_of plan 0 lines []))
     → h ≡ header_for plan lines seed → IfOk o (IsFinished h r) → IfOk o (IsRanked lines plan seed)
-all_ranked lines seed plan sources same r h (Err e) are for is = tt
-all_ranked lines seed plan sources same r h (Ok a) are for is =
-    λ values as_many. assembled_by lines values seed plan (sources values as_many) 0 (omega arith) (same 0 (least_width values) values values) r a
-    (subst (λ (ps : List Part). MatchResult r (λ s. AreSectionsOf plan lines seed ps s.items) (StopsParts plan seed ps)) (same 0 0 [] values) are)
-    (subst (λ (k : Header). IsFinished k r a) for is)
+all_ranked lines seed plan sources same ranks r h (Err e) are for is = tt
+all_ranked lines seed plan sources same ranks r h (Ok a) are for is =
+    let plain = plain_values (length lines) in
+    let with_plain : IsAssembled lines plain plan seed a =
+    assembled_by lines plain seed plan sources 0 (omega arith) (same 0 (least_width plain) plain plain) r a
+    (subst (λ (ps : List Part). MatchResult r (λ s. AreSectionsOf plan lines seed ps s.items) (StopsParts plan seed ps)) (same 0 0 [] plain) are)
+    (subst (λ (k : Header). IsFinished k r a) for is) in
+    λ values as_many.
+    carried lines seed plan plain values (same (least_width plain) (least_width values) plain values)
+    (ranks plain ∙ ap plain_values (length-range_with_len 0 (length lines) ∙ sym as_many) ∙ sym (ranks values)) a with_plain

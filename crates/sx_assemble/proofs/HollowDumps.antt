@@ -19,6 +19,7 @@ use Rattle.sx_spec.specs.Laws.{IsHeader}
 use Rattle.sx_spec.specs.Layout.{section_words}
 use Rattle.sx_spec.specs.Parts.{kind_parts, parts_of}
 use Rattle.sx_spec.specs.StaticFunction.{Part}
+use Rattle.sx_spec.specs.Values.{plain_values}
 use Rattle.sx_spec.proofs.Bounds.{Each}
 use Rattle.sx_spec.proofs.BuiltWords.{left_small, skip_small, sums_below}
 use Rattle.sx_spec.proofs.Digits.{length-lowest_digits, packed_fields_are_read_back}
@@ -27,14 +28,15 @@ use Rattle.sx_bits.proofs.KeyListBits.{key_list_bits}
 use Rattle.sx_ef.proofs.Widths.{upper_few, width_le}
 use Rattle.sx_trie.specs.Tries.{AreRising, delimiter_bits}
 use Rattle.sx_assemble.specs.declared.layout.SectionBuf.{SectionBuf}
+use Rattle.sx_assemble.specs.Assembling.{key_signature}
 use Rattle.sx_assemble.specs.Hollowing.{AreHollow, IsHollowPlan}
-use Rattle.sx_assemble.specs.Sectioning.{AreSectionsOf, IsWhole, header_for, held_words, section_built}
+use Rattle.sx_assemble.specs.Sectioning.{AreKindSections, AreSectionsOf, AreSigned, IsWhole, header_for, held_words, section_built}
 use Rattle.sx_assemble.proofs.BuiltDumps.{AreSources, few_lines}
 use Rattle.sx_assemble.proofs.Cells.{words_le}
-use Rattle.sx_assemble.proofs.KeyParts.{unsigned_sections}
 use Rattle.sx_assemble.proofs.KeySizes.{keys_short}
 use Rattle.sx_assemble.proofs.Layouts.{few_words, section_laid}
 use Rattle.sx_assemble.proofs.NarrowValues.{each_small}
+use Rattle.sx_assemble.proofs.SignedEnds.{all_sections}
 
 -- ---- all keys
 
@@ -138,7 +140,8 @@ hollow_laid list are left skip left_built left_whole skip_built skip_whole =
     ) in
     record {
       built = λ i. left_built i ∷ skip_built i ∷ [];
-      laid = record { whole = (left_whole, (skip_whole, tt)); few = omega arith };
+      whole = (left_whole, (skip_whole, tt));
+      few = omega arith;
     }
 
 module _ (plan : Plan) (lines : List Text) (seed : ℕ) (is : IsHollowPlan plan) where
@@ -152,21 +155,22 @@ module _ (plan : Plan) (lines : List Text) (seed : ℕ) (is : IsHollowPlan plan)
   pub hollow_parts_same : (width width' : ℕ) (values values' : List ℕ) → parts_of plan width lines values ≡ parts_of plan width' lines values'
   hollow_parts_same width width' values values' = hollow_parts_are width values ∙ sym (hollow_parts_are width' values')
 
-  pub hollow_done : (sections : List SectionBuf) → AreHollow lines sections → AreSectionsOf plan lines seed (parts_of plan 0 lines []) sections
+  hollow_done : (sections : List SectionBuf) → AreHollow lines sections → AreKindSections Hollow plan lines seed (parts_of plan 0 lines []) sections
   hollow_done sections are =
-      let all : AreSectionsOf plan lines seed [] sections = record {
+      let all : AreKindSections Hollow plan lines seed [] sections = record {
         functions = [];
         done = tt;
-        built = are.built ∙ sym (unsigned_sections (header_for plan lines seed) Hollow [] keys is.kind is.unsigned);
-        laid = are.laid;
+        built = are.built;
+        whole = are.whole;
+        few = are.few;
         cells = tt;
       } in
-      subst (λ (ps : List Part). AreSectionsOf plan lines seed ps sections) (sym (hollow_parts_are 0 [])) all
+      subst (λ (ps : List Part). AreKindSections Hollow plan lines seed ps sections) (sym (hollow_parts_are 0 [])) all
 
   hollow_header : length lines ≤ 4194304 → IsHeader (header_for plan lines seed)
   hollow_header few =
       let buckets = is.buckets in
-      let signed = is.unsigned in
+      let signed = is.signed in
       let handles = is.handles in
       record {
         method = λ e. is.method;
@@ -179,16 +183,23 @@ module _ (plan : Plan) (lines : List Text) (seed : ℕ) (is : IsHollowPlan plan)
         handles = λ e. handles;
       }
 
--- what a hollow trie is built from, with any values
-pub hollow_sources : (plan : Plan) (list : Keys) (seed : ℕ) → IsHollowPlan plan → IsKeyList list → seed < 2 ^ 64 → (values : List ℕ) → length values ≡ length list.lines → AreSources list.lines values seed plan
-hollow_sources plan list seed is are small values as_many =
+-- what a hollow trie is built from
+pub hollow_sources : (plan : Plan) (list : Keys) (seed : ℕ) → IsHollowPlan plan → IsKeyList list → seed < 2 ^ 64 → AreSources list.lines (plain_values (length list.lines)) seed plan
+hollow_sources plan list seed is are small =
     record {
       limits = list.limits;
       standard = are.limits;
       faultless = are.faultless;
       bytes = are.bytes;
-      as_many = as_many;
+      as_many = length-range_with_len 0 (length list.lines);
       seed_small = small;
-      unsigned = is.unsigned;
+      plain = λ signed. refl;
       header = hollow_header plan list.lines seed is (few_lines list.limits list.lines are.limits are.faultless);
     }
+
+-- all sections of its dump, signed or not
+pub hollow_whole : (plan : Plan) (list : Keys) (seed : ℕ) → IsHollowPlan plan → IsKeyList list → (own sections : List SectionBuf) → AreHollow list.lines own → AreSigned plan.signed (map (key_signature seed plan.sig_bits) list.lines) own sections
+    → AreSectionsOf plan list.lines seed (parts_of plan 0 list.lines []) sections
+hollow_whole plan list seed is are own sections hollow signed =
+    all_sections Hollow plan list.lines seed (parts_of plan 0 list.lines []) is.kind own sections (hollow_done plan list.lines seed is own hollow)
+    (few_lines list.limits list.lines are.limits are.faultless) is.signed (map (key_signature seed plan.sig_bits) list.lines) refl signed

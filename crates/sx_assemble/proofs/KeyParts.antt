@@ -1,6 +1,6 @@
 -- The part of a static function, its section, and the header of its dump.
-use Rattle.std.proofs.Common.{◌≡◌, ℕ, ◌≤◌, true, false, List, [], ◌∷◌, ◌++◌, length, map, refl, sym, ap, subst, ◌∙◌, arith}
-use Rattle.std.specs.Prelude.{◌==◌, zip, if◌then◌else◌}
+use Rattle.std.proofs.Common.{◌≡◌, ℕ, ◌≤◌, true, false, List, [], ◌∷◌, length, map, refl, sym, ap, subst, ◌∙◌, arith}
+use Rattle.std.specs.Prelude.{zip}
 use Rattle.std.proofs.lemmas.List.{length-map}
 use Rattle.sx_spec_strings.specs.Bits.{Bits, key_bits}
 use Rattle.sx_spec_kinds.specs.declared.Kind.{Kind}
@@ -8,21 +8,19 @@ use Rattle.sx_spec_kinds.specs.declared.Kind.TheVariants.{Func}
 use Rattle.sx_spec_kinds.specs.Blocks.{block_size}
 use Rattle.sx_spec.specs.declared.Plan.{Plan}
 use Rattle.sx_spec.specs.declared.Signature.{Signature}
-use Rattle.sx_spec.specs.Built.{built_sections, kind_sections, marks_list}
 use Rattle.sx_spec.specs.Command.{Text}
 use Rattle.sx_spec.specs.Kinds.{uses_method}
 use Rattle.sx_spec.specs.Laws.{IsHeader}
-use Rattle.sx_spec.specs.Layout.{Header, list_section}
 use Rattle.sx_spec.specs.Parts.{kind_parts, least_width, parts_of, values_part}
 use Rattle.sx_spec.specs.Signature.{signature}
-use Rattle.sx_spec.specs.StaticFunction.{Entry, Function as FunctionOf, Part, part_entries}
+use Rattle.sx_spec.specs.StaticFunction.{Entry, Part, part_entries}
 use Rattle.sx_assemble.specs.Assembling.{IsFuncPlan}
 use Rattle.sx_static.specs.declared.FuncBuf.{FuncBuf}
-use Rattle.sx_static.specs.Answer.{IsDone, entries_of, function_of}
+use Rattle.sx_static.specs.Answer.{IsDone, entries_of}
 use Rattle.sx_assemble.specs.declared.layout.SectionBuf.TheVariants.{Function}
 use Rattle.sx_assemble.specs.declared.parts.Stop.{Stop}
 use Rattle.sx_assemble.specs.Assembling.{key_signature, tries}
-use Rattle.sx_assemble.specs.Sectioning.{AreSectionsOf, StopsPart, StopsParts, header_for}
+use Rattle.sx_assemble.specs.Sectioning.{AreKindSections, StopsPart, StopsParts, header_for}
 use Rattle.sx_assemble.proofs.Layouts.{few_words}
 use Rattle.sx_assemble.proofs.PartLists.{cells_counted, function_few, stops_at, whole}
 
@@ -47,19 +45,12 @@ length_zip [] ys e = refl
 length_zip (x ∷ xs) [] e = absurd (omega arith)
 length_zip (x ∷ xs) (y ∷ ys) e = let rest = length_zip xs ys (omega arith) in omega arith
 
--- ---- unsigned dumps
-
--- the sections are those of the kind alone
-pub unsigned_sections : (h : Header) (k : Kind) (functions : List FunctionOf) (keys : List Bits) → h.plan.kind ≡ k → h.plan.signed ≡ 0 → built_sections h functions keys ≡ kind_sections k h (block_size h.plan.log_bucket) functions keys ++ []
-unsigned_sections h k functions keys kind unsigned =
-    λ i. kind_sections (kind i) h (block_size h.plan.log_bucket) functions keys ++ (if unsigned i == 0 then [] else list_section h.plan.signed (marks_list h h.plan.signed keys) ∷ [])
-
 -- ---- static functions
 
 pub func_header : (plan : Plan) (lines : List Text) (seed : ℕ) → IsFuncPlan plan → length lines ≤ 4194304 → IsHeader (header_for plan lines seed)
 func_header plan lines seed offered few =
     let buckets = offered.buckets in
-    let signed = offered.unsigned in
+    let signed = offered.signed in
     let handles = offered.handles in
     record {
       method = λ e. let never : true ≡ false = ap uses_method (sym offered.kind) ∙ e in absurd cc;
@@ -97,16 +88,17 @@ module _ (lines : List Text) (values : List ℕ) (seed : ℕ) (plan : Plan) (off
       subst (λ (ps : List Part). StopsParts plan seed ps stop) (sym one_part)
       (stops_at plan seed (part ∷ []) [] 0 part stop tt refl (subst (λ (es : List Entry). StopsPart 0 plan.method es stop) entries_are is))
 
-  pub func_done : (f : FuncBuf) → least_width values ≤ 64 → IsDone plan.method tries (least_width values) (entries_of sigs values) f → AreSectionsOf plan lines seed (parts_of plan (least_width values) lines values) (Function f ∷ [])
+  pub func_done : (f : FuncBuf) → least_width values ≤ 64 → IsDone plan.method tries (least_width values) (entries_of sigs values) f → AreKindSections Func plan lines seed (parts_of plan (least_width values) lines values) (Function f ∷ [])
   func_done f narrow is =
       let done = subst (λ (es : List Entry). IsDone plan.method tries width es f) entries_are is in
       let entries = part_entries plan.sig_bits seed part in
       let words = few_words (Function f ∷ []) (function_few plan.method width entries f done count narrow, tt) in
-      let are : AreSectionsOf plan lines seed (part ∷ []) (Function f ∷ []) = record {
+      let are : AreKindSections Func plan lines seed (part ∷ []) (Function f ∷ []) = record {
         functions = f ∷ [];
         done = (done, tt);
-        built = sym (unsigned_sections (header_for plan lines seed) Func (function_of f ∷ []) (map key_bits lines) offered.kind offered.unsigned);
-        laid = record { whole = (whole plan.method width entries f done, tt); few = omega arith };
+        built = refl;
+        whole = (whole plan.method width entries f done, tt);
+        few = omega arith;
         cells = (cells_counted plan.method width entries f done count, tt);
       } in
-      subst (λ (ps : List Part). AreSectionsOf plan lines seed ps (Function f ∷ [])) (sym one_part) are
+      subst (λ (ps : List Part). AreKindSections Func plan lines seed ps (Function f ∷ [])) (sym one_part) are

@@ -25,11 +25,10 @@ use Rattle.sx_assemble.specs.declared.layout.SectionBuf.TheVariants.{Function, N
 use Rattle.sx_assemble.specs.declared.parts.Stop.{Stop}
 use Rattle.sx_assemble.specs.Assembling.{key_signature, tries}
 use Rattle.sx_assemble.specs.Ranking.{IsBlockPlan, signature_at}
-use Rattle.sx_assemble.specs.Sectioning.{AreSectionsOf, IsPartDone, StopsPart, StopsParts, header_for, held_words}
+use Rattle.sx_assemble.specs.Sectioning.{AreKindSections, IsPartDone, StopsPart, StopsParts, held_words}
 use Rattle.sx_assemble.proofs.CodePairs.{codes_are, escaped_are, lens_count}
 use Rattle.sx_assemble.proofs.KeyPairs.{least_of}
 use Rattle.sx_assemble.proofs.KeySizes.{codes_narrow, lens_narrow}
-use Rattle.sx_assemble.proofs.KeyParts.{unsigned_sections}
 use Rattle.sx_assemble.proofs.Layouts.{few_words, list_few}
 use Rattle.sx_assemble.proofs.LcpDumps.{entry_count}
 use Rattle.sx_assemble.proofs.PartLists.{cells_counted, function_few, stops_at, whole}
@@ -84,7 +83,7 @@ module _ (plan : Plan) (lines : List Text) (seed : ℕ) (is : IsBlockPlan Lcp2 p
         -- a function for each part, and the table between
         pub lcp2_done : (prefixes : FuncBuf) (table : NumberList) → IsPartDone plan seed (prefixes_part plan lines) prefixes → length lines ≤ 4194304 → (offsets_part plan lines).width ≤ 64 → (codes_part plan lines).width ≤ 64 → escaped.width ≤ 64 → prefixes.width ≤ 64
             → table.width ≡ width_of (prefix_lens (block_size plan.log_bucket) (map key_bits lines)) → table.items ≡ (two_step_of (prefix_lens (block_size plan.log_bucket) (map key_bits lines))).table → table.width ≤ 64 → length table.items ≤ 2 ^ 24
-            → AreSectionsOf plan lines seed (parts_of plan 0 lines []) (Function offsets ∷ Function codes ∷ Numbers table ∷ Function escaped ∷ Function prefixes ∷ [])
+            → AreKindSections Lcp2 plan lines seed (parts_of plan 0 lines []) (Function offsets ∷ Function codes ∷ Numbers table ∷ Function escaped ∷ Function prefixes ∷ [])
         lcp2_done prefixes table prefixes_done few offsets_narrow codes_narrow escaped_narrow prefixes_narrow wide listed narrow short =
             let count = length-map lines key_bits in
             let some : 0 < b = pow_pos plan.log_bucket in
@@ -108,28 +107,24 @@ module _ (plan : Plan) (lines : List Text) (seed : ℕ) (is : IsBlockPlan Lcp2 p
                 ),
               ),
             ) in
-            let functions = function_of offsets ∷ function_of codes ∷ function_of escaped ∷ function_of prefixes ∷ [] in
-            let are : AreSectionsOf plan lines seed all sections = record {
+            let are : AreKindSections Lcp2 plan lines seed all sections = record {
               functions = offsets ∷ codes ∷ escaped ∷ prefixes ∷ [];
               done = (offsets_done, (codes_done, (escaped_done, (prefixes_done, tt))));
-              built = (λ i. function_section (function_of offsets) ∷ function_section (function_of codes) ∷ list_section (wide i) (listed i) ∷ function_section (function_of escaped) ∷ function_section (function_of prefixes) ∷ [])
-                  ∙ sym (unsigned_sections (header_for plan lines seed) Lcp2 functions keys is.kind is.unsigned);
-              laid = record {
-                whole = (
-                  whole plan.method (offsets_part plan lines).width (entries (offsets_part plan lines)) offsets offsets_done,
+              built = λ i. function_section (function_of offsets) ∷ function_section (function_of codes) ∷ list_section (wide i) (listed i) ∷ function_section (function_of escaped) ∷ function_section (function_of prefixes) ∷ [];
+              whole = (
+                whole plan.method (offsets_part plan lines).width (entries (offsets_part plan lines)) offsets offsets_done,
+                (
+                  whole plan.method (codes_part plan lines).width (entries (codes_part plan lines)) codes codes_done,
                   (
-                    whole plan.method (codes_part plan lines).width (entries (codes_part plan lines)) codes codes_done,
+                    tt,
                     (
-                      tt,
-                      (
-                        whole plan.method (escaped_part plan lines).width (entries (escaped_part plan lines)) escaped escaped_done,
-                        (whole plan.method (prefixes_part plan lines).width (entries (prefixes_part plan lines)) prefixes prefixes_done, tt),
-                      ),
+                      whole plan.method (escaped_part plan lines).width (entries (escaped_part plan lines)) escaped escaped_done,
+                      (whole plan.method (prefixes_part plan lines).width (entries (prefixes_part plan lines)) prefixes prefixes_done, tt),
                     ),
                   ),
-                );
-                few = omega arith;
-              };
+                ),
+              );
+              few = omega arith;
               cells = (
                 cells_counted plan.method (offsets_part plan lines).width (entries (offsets_part plan lines)) offsets offsets_done few_0,
                 (
@@ -141,7 +136,7 @@ module _ (plan : Plan) (lines : List Text) (seed : ℕ) (is : IsBlockPlan Lcp2 p
                 ),
               );
             } in
-            subst (λ (ps : List Part). AreSectionsOf plan lines seed ps sections) (sym (lcp2_parts_are 0 [])) are
+            subst (λ (ps : List Part). AreKindSections Lcp2 plan lines seed ps sections) (sym (lcp2_parts_are 0 [])) are
 
 -- ---- as the code builds it
 

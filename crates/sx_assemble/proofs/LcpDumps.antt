@@ -1,6 +1,7 @@
 -- Dumps of distributors by longest common prefixes: their parts, their sections and their headers.
 use Rattle.std.proofs.Common.{◌≡◌, ℕ, ◌^◌, ◌<◌, ◌≤◌, true, false, List, [], ◌∷◌, length, map, refl, sym, ap, subst, ◌∙◌, arith}
 use Rattle.std.proofs.lemmas.List.{length-map}
+use Rattle.std.proofs.lemmas.List.FromFn.{length-range_with_len}
 use Rattle.std.proofs.Math.Pow.{pow_pos}
 use Rattle.sx_spec_strings.specs.Bits.{Bits, key_bits}
 use Rattle.sx_spec_kinds.specs.declared.Kind.{Kind}
@@ -14,16 +15,15 @@ use Rattle.sx_spec.specs.Laws.{IsHeader}
 use Rattle.sx_spec.specs.Parts.{kind_parts, least_part, parts_of}
 use Rattle.sx_spec.specs.Signature.{signature}
 use Rattle.sx_spec.specs.StaticFunction.{Part, part_entries}
+use Rattle.sx_spec.specs.Values.{plain_values}
 use Rattle.sx_spec.proofs.Members.{few_lengths, few_prefixes}
 use Rattle.sx_bits.specs.KeyLists.{IsKeyList, Keys}
 use Rattle.sx_static.specs.declared.FuncBuf.{FuncBuf}
-use Rattle.sx_static.specs.Answer.{function_of}
 use Rattle.sx_assemble.specs.declared.layout.SectionBuf.TheVariants.{Function}
 use Rattle.sx_assemble.specs.declared.parts.Stop.{Stop}
 use Rattle.sx_assemble.specs.Ranking.{IsBlockPlan}
-use Rattle.sx_assemble.specs.Sectioning.{AreSectionsOf, IsPartDone, StopsPart, StopsParts, header_for}
+use Rattle.sx_assemble.specs.Sectioning.{AreKindSections, IsPartDone, StopsPart, StopsParts, header_for}
 use Rattle.sx_assemble.proofs.BuiltDumps.{AreSources, few_lines}
-use Rattle.sx_assemble.proofs.KeyParts.{unsigned_sections}
 use Rattle.sx_assemble.proofs.Layouts.{few_words}
 use Rattle.sx_assemble.proofs.PartLists.{cells_counted, function_few, stops_at, whole}
 
@@ -31,7 +31,7 @@ use Rattle.sx_assemble.proofs.PartLists.{cells_counted, function_few, stops_at, 
 
 pub block_header : (kind : Kind) (plan : Plan) (lines : List Text) (seed : ℕ) → IsBlockPlan kind plan → uses_method kind ≡ true → uses_buckets kind ≡ true → length lines ≤ 4194304 → IsHeader (header_for plan lines seed)
 block_header kind plan lines seed is by_method by_buckets few =
-    let signed = is.unsigned in
+    let signed = is.signed in
     let handles = is.handles in
     record {
       method = λ e. let never : true ≡ false = sym by_method ∙ ap uses_method (sym is.kind) ∙ e in absurd cc;
@@ -48,17 +48,17 @@ block_header kind plan lines seed is by_method by_buckets few =
 pub entry_count : (kept seed : ℕ) (part : Part) → length (part_entries kept seed part) ≡ length part.pairs
 entry_count kept seed part = length-map part.pairs (λ (p : Bits × ℕ). (signature seed kept p.0, p.1))
 
--- what an unsigned dump in blocks is built from, with any values
-pub block_sources : (kind : Kind) (plan : Plan) (list : Keys) (seed : ℕ) → IsBlockPlan kind plan → uses_method kind ≡ true → uses_buckets kind ≡ true → IsKeyList list → seed < 2 ^ 64 → (values : List ℕ) → length values ≡ length list.lines → AreSources list.lines values seed plan
-block_sources kind plan list seed is by_method by_buckets are small values as_many =
+-- what a dump in blocks is built from
+pub block_sources : (kind : Kind) (plan : Plan) (list : Keys) (seed : ℕ) → IsBlockPlan kind plan → uses_method kind ≡ true → uses_buckets kind ≡ true → IsKeyList list → seed < 2 ^ 64 → AreSources list.lines (plain_values (length list.lines)) seed plan
+block_sources kind plan list seed is by_method by_buckets are small =
     record {
       limits = list.limits;
       standard = are.limits;
       faultless = are.faultless;
       bytes = are.bytes;
-      as_many = as_many;
+      as_many = length-range_with_len 0 (length list.lines);
       seed_small = small;
-      unsigned = is.unsigned;
+      plain = λ signed. refl;
       header = block_header kind plan list.lines seed is by_method by_buckets (few_lines list.limits list.lines are.limits are.faultless);
     }
 
@@ -96,7 +96,7 @@ module _ (plan : Plan) (lines : List Text) (seed : ℕ) (is : IsBlockPlan Lcp pl
       (stops_at plan seed (lengths ∷ prefixes ∷ []) (f ∷ []) 1 prefixes stop (done, tt) refl stops)
 
   pub lcp_done : (f g : FuncBuf) → length lines ≤ 4194304 → IsPartDone plan seed (least_part (lengths_pairs (block_size plan.log_bucket) (map key_bits lines))) f → (least_part (lengths_pairs (block_size plan.log_bucket) (map key_bits lines))).width ≤ 64
-      → IsPartDone plan seed (least_part (prefixes_pairs (block_size plan.log_bucket) (map key_bits lines))) g → g.width ≤ 64 → AreSectionsOf plan lines seed (parts_of plan 0 lines []) (Function f ∷ Function g ∷ [])
+      → IsPartDone plan seed (least_part (prefixes_pairs (block_size plan.log_bucket) (map key_bits lines))) g → g.width ≤ 64 → AreKindSections Lcp plan lines seed (parts_of plan 0 lines []) (Function f ∷ Function g ∷ [])
   lcp_done f g few f_done f_narrow g_done g_narrow =
       let count = length-map lines key_bits in
       let some : 0 < b = pow_pos plan.log_bucket in
@@ -109,11 +109,12 @@ module _ (plan : Plan) (lines : List Text) (seed : ℕ) (is : IsBlockPlan Lcp pl
       let f_few : length f_es ≤ 4194304 = omega arith in
       let g_few : length g_es ≤ 4194304 = omega arith in
       let words = few_words (Function f ∷ Function g ∷ []) (function_few plan.method lengths.width f_es f f_done f_few f_narrow, (function_few plan.method prefixes.width g_es g g_done g_few (subst (λ (w : ℕ). w ≤ 64) g_done.built.width g_narrow), tt)) in
-      let are : AreSectionsOf plan lines seed (lengths ∷ prefixes ∷ []) (Function f ∷ Function g ∷ []) = record {
+      let are : AreKindSections Lcp plan lines seed (lengths ∷ prefixes ∷ []) (Function f ∷ Function g ∷ []) = record {
         functions = f ∷ g ∷ [];
         done = (f_done, (g_done, tt));
-        built = sym (unsigned_sections (header_for plan lines seed) Lcp (function_of f ∷ function_of g ∷ []) keys is.kind is.unsigned);
-        laid = record { whole = (whole plan.method lengths.width f_es f f_done, (whole plan.method prefixes.width g_es g g_done, tt)); few = omega arith };
+        built = refl;
+        whole = (whole plan.method lengths.width f_es f f_done, (whole plan.method prefixes.width g_es g g_done, tt));
+        few = omega arith;
         cells = (cells_counted plan.method lengths.width f_es f f_done f_few, (cells_counted plan.method prefixes.width g_es g g_done g_few, tt));
       } in
-      subst (λ (ps : List Part). AreSectionsOf plan lines seed ps (Function f ∷ Function g ∷ [])) (sym (lcp_parts_are 0 [])) are
+      subst (λ (ps : List Part). AreKindSections Lcp plan lines seed ps (Function f ∷ Function g ∷ [])) (sym (lcp_parts_are 0 [])) are

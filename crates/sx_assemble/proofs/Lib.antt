@@ -10,4 +10,5 @@ pub mod HollowDumps
 pub mod Lcp2Dumps
 pub mod LcpDumps
 pub mod NarrowValues
+pub mod SignedEnds
 pub mod Signing

@@ -66,10 +66,10 @@ IsAssembled keys values plan seed (SeedFailed fault) = IsFailure keys values pla
 abbrev pub key_signature : (seed sig_bits : ℕ) → List ℕ → Signature
 key_signature seed sig_bits line = signature seed sig_bits (key_bits line)
 
--- a plan of a static function, unsigned
+-- a plan of a static function
 pub record IsFuncPlan (plan : Plan) : Type 0 where
   pub kind : plan.kind ≡ Func
-  pub unsigned : plan.signed ≡ 0
+  pub signed : plan.signed ≤ 64
   pub buckets : plan.log_bucket ≡ 0
   pub handles : plan.handle_bits ≡ 0
   pub bits : plan.sig_bits ≤ 192

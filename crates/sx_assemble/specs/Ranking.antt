@@ -10,10 +10,10 @@ use Rattle.sx_static.specs.Answer.{entries_of}
 use Rattle.sx_assemble.specs.declared.Assembled.{Assembled}
 use Rattle.sx_assemble.specs.Assembling.{IsAssembled}
 
--- a plan of a kind whose keys stand in blocks, unsigned and without handles
+-- a plan of a kind whose keys stand in blocks, without handles
 pub record IsBlockPlan (k : Kind) (plan : Plan) : Type 0 where
   pub kind : plan.kind ≡ k
-  pub unsigned : plan.signed ≡ 0
+  pub signed : plan.signed ≤ 64
   pub buckets : plan.log_bucket ≤ 12
   pub handles : plan.handle_bits ≡ 0
   pub bits : plan.sig_bits ≤ 192

@@ -1,14 +1,17 @@
 -- Sections as they are built, their words, and the parts that they are built from.
 use Rattle.std.proofs.Common.{Global}
-use Rattle.std.specs.Prelude.{◌≡◌, ℕ, ◌+◌, ◌<◌, ◌≤◌, ◌^◌, List, ◌∷◌, ◌++◌, length, map, flat_map, ⊤, Result, Ok, Err, Vec}
+use Rattle.std.specs.Prelude.{◌≡◌, ◌≢◌, ℕ, ◌+◌, ◌*◌, ◌<◌, ◌≤◌, ◌^◌, List, [], ◌∷◌, ◌++◌, length, map, flat_map, ⊤, Result, Ok, Err, Vec}
 use Rattle.std.specs.List.{AllByRecursion, AllZip}
 use Rattle.sx_spec_strings.specs.Bits.{key_bits}
+use Rattle.sx_spec_kinds.specs.declared.Kind.{Kind}
+use Rattle.sx_spec_kinds.specs.Blocks.{block_size}
 use Rattle.sx_spec.specs.declared.Method.{Method}
 use Rattle.sx_spec.specs.declared.Plan.{Plan}
-use Rattle.sx_spec.specs.Built.{built_sections}
+use Rattle.sx_spec.specs.Built.{built_sections, kind_sections}
 use Rattle.sx_spec.specs.Fields.{below_of, low_words, packed, upper_words}
 use Rattle.sx_spec.specs.Layout.{Header, Section, function_section, list_section, sums_section, layout, table_words, u32_max}
 use Rattle.sx_spec.specs.declared.Signature.{Signature}
+use Rattle.sx_spec.specs.Reply.{top_bits}
 use Rattle.sx_spec.specs.Signature.{signature}
 use Rattle.sx_spec.specs.StaticFunction.{Entry, Part, part_entries, cell_count, IsCause, IsSeedFailure}
 use Rattle.sx_static.specs.declared.FuncBuf.{FuncBuf}
@@ -98,6 +101,20 @@ pub record AreSectionsOf (plan : Plan) (lines : List (List ℕ)) (seed : ℕ) (p
   pub built : map section_built sections ≡ built_sections (header_for plan lines seed) (map function_of functions) (map key_bits lines)
   pub laid : AreLaidOut sections
   pub cells : AllByRecursion (λ f. cell_count f.chunks ≤ u32_max) (map function_of functions)
+
+-- the sections are those of the kind alone, with a function for each part, and leave room for a list
+pub record AreKindSections (kind : Kind) (plan : Plan) (lines : List (List ℕ)) (seed : ℕ) (parts : List Part) (sections : List SectionBuf) : Type 0 where
+  pub functions : List FuncBuf
+  pub done : AllZip (IsPartDone plan seed) parts functions
+  pub built : map section_built sections ≡ kind_sections kind (header_for plan lines seed) (block_size plan.log_bucket) (map function_of functions) (map key_bits lines)
+  pub whole : AllByRecursion IsWhole sections
+  pub few : length (flat_map held_words sections) ≤ 5 * (2 ^ 24 + 2)
+  pub cells : AllByRecursion (λ f. cell_count f.chunks ≤ u32_max) (map function_of functions)
+
+-- behind the sections stands a list of the highest bits of the signatures, but where the width is 0
+pub record AreSigned (width : ℕ) (sigs : List Signature) (before after : List SectionBuf) : Type 0 where
+  pub unsigned : width ≡ 0 → after ≡ before
+  pub signed : width ≢ 0 → after ≡ before ++ Numbers (record { width = width; items = map (top_bits width) sigs }) ∷ []
 
 -- the words are those of a dump of the sections, or what fails is what kept the sections from being built
 abbrev pub IsFinished : Header → Result (Vec SectionBuf Global) Stop → Assembled → Type 0

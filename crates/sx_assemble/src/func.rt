@@ -1,20 +1,22 @@
 //! Dumps of static functions.
 
-ghost use Rattle.std.specs.Prelude.{◌≡◌, IfOk, MatchResult, length};
+ghost use Rattle.std.specs.Prelude.{◌≡◌, ◌≢◌, IfOk, MatchResult, length};
 ghost use Rattle.sx_spec.specs.Parts.{least_width as least_width_of, parts_of};
+ghost use Rattle.sx_spec.specs.Values.{plain_values};
 ghost use Rattle.sx_assemble.specs.Assembling.{IsAssembled, IsFuncPlan};
 ghost use Rattle.sx_assemble.specs.Sectioning.{AreSectionsOf, StopsParts};
 
 use crate::layout::SectionBuf;
 use crate::parts::{Stop, build_least};
 use crate::signatures::sign_keys;
+use crate::signed::with_signatures;
 use crate::{Assembled, finished, header_of};
 use std::alloc::{AllocError, Global};
 use sx_bits::KeyList;
 use sx_sig::Plan;
 
-/// The section of the static function that gives each key its value. A value takes as many bits as
-/// the greatest has.
+/// The sections of the kind `func`: the static function that gives each key its value, and what a
+/// signed dump keeps of the keys. A value takes as many bits as the greatest has.
 fn func_sections(
     alloc: Global,
     keys: &KeyList,
@@ -30,12 +32,14 @@ fn func_sections(
 {
     let sigs = sign_keys(alloc, keys, seed, plan.sig_bits)?;
     let function = build_least(alloc, 0, &sigs, values, plan.method)?;
-    Ok(vec![in alloc; SectionBuf::Function(function)]?)
+    let sections = vec![in alloc; SectionBuf::Function(function)]?;
+    Ok(with_signatures(alloc, sections, &sigs, plan.signed)?)
 }
 
 /// Builds the static function that gives each key its value, and lays out its dump in words, or
-/// tells why the seed doesn't work. The plan is one of an unsigned `func` with signatures of at most
-/// 192 bits, and there are as many values as keys. A value takes as many bits as the greatest has.
+/// tells why the seed doesn't work. The plan is one of `func` with signatures of at most 192 bits, and
+/// there are as many values as keys, which are the keys' numbers where the plan is signed. A value
+/// takes as many bits as the greatest has.
 ///
 /// # Errors
 ///
@@ -49,6 +53,8 @@ pub(crate) fn assemble_func(
 ) -> Result<Assembled, AllocError>
     requires plan { IsFuncPlan plan.now }
     requires values { length values.now ≡ length keys.now.lines }
+    requires ranks { plan.now.signed ≢ 0
+        → values.now ≡ plain_values (length keys.now.lines) }
     ensures { IfOk result (IsAssembled keys.now.lines values.now plan.now seed) }
 {
     let sections = func_sections(alloc, keys, values, plan, seed);

@@ -1,7 +1,6 @@
 //! Dumps of hollow tries.
 
 ghost use Rattle.std.specs.Prelude.{◌≡◌, ◌≤◌, ◌<◌, ◌^◌, IfOk, length, map};
-ghost use Rattle.std.specs.List.{range_with_len};
 ghost use Rattle.sx_spec_strings.specs.Bits.{key_bits};
 ghost use Rattle.sx_spec_kinds.specs.Hollow.{left_counts, skips};
 ghost use Rattle.sx_spec.specs.Built.{sums_from, sums_list};
@@ -11,23 +10,14 @@ ghost use Rattle.sx_assemble.specs.Ranking.{IsRanked};
 ghost use Rattle.sx_assemble.specs.Sectioning.{IsWhole, section_built};
 
 use crate::layout::SectionBuf;
+use crate::numbers::members_to;
+use crate::signed::with_key_signatures;
 use crate::{Assembled, finished, header_of};
 use std::alloc::{AllocError, Global};
 use sx_bits::KeyList;
 use sx_ef::view::EliasFano;
 use sx_hollow::{HollowLists, hollow_lists};
 use sx_sig::Plan;
-
-/// The numbers from 0 up to before `count`.
-fn members_to(alloc: Global, count: u32) -> Result<Vec<u32>, AllocError>
-    ensures { IfOk result (λ members. members.items ≡ range_with_len 0 count) }
-{
-    let mut members = Vec::with_capacity(alloc, count as usize)?;
-    for i in 0..count {
-        members.push(i)?;
-    }
-    Ok(members)
-}
 
 /// The lists of the trie of all keys.
 fn key_lists(alloc: Global, keys: &KeyList) -> Result<HollowLists, AllocError>
@@ -76,8 +66,8 @@ fn hollow_sections(alloc: Global, keys: &KeyList) -> Result<Vec<SectionBuf>, All
 }
 
 /// Builds the hollow trie of the keys, by which each key is answered its number, and lays out its
-/// dump in words. The plan is one of an unsigned `hollow` with signatures of at most 192 bits, of
-/// which there are none: no seed fails. Values of keys don't count.
+/// dump in words. The plan is one of `hollow` with signatures of at most 192 bits, of which there are
+/// none but for a signed dump: no seed fails. Values of keys don't count.
 ///
 /// # Errors
 ///
@@ -92,5 +82,6 @@ pub(crate) fn assemble_hollow(
     ensures { IfOk result (IsRanked keys.now.lines plan.now seed) }
 {
     let sections = hollow_sections(alloc, keys)?;
+    let sections = with_key_signatures(alloc, sections, keys, plan, seed)?;
     finished(alloc, &header_of(keys, plan, seed), Ok(sections))
 }

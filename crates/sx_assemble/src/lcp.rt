@@ -19,6 +19,7 @@ use crate::layout::SectionBuf;
 use crate::numbers::{length_numbers, numbers_to};
 use crate::parts::{Stop, build_least};
 use crate::signatures::{sign_keys, sign_pieces};
+use crate::signed::with_signatures;
 use crate::{Assembled, finished, header_of};
 use std::alloc::{AllocError, Global};
 use sx_bits::{KeyList, Piece};
@@ -63,7 +64,8 @@ fn lengths_function(
     requires bucket { plan.now.log_bucket ≤ 12 }
     requires numbers { length lengths.items ≡ length sigs.now }
     requires few { length sigs.now ≤ 2 ^ 27 }
-    ensures built { let numbers = length_numbers_of (block_size plan.now.log_bucket) lengths.items in
+    ensures built { let b = block_size plan.now.log_bucket in
+        let numbers = length_numbers_of b lengths.items in
         MatchResult result
         (IsDone plan.now.method tries (least_width_of numbers) (entries_of sigs.now numbers))
         (StopsPart 0 plan.now.method (entries_of sigs.now numbers)) }
@@ -74,7 +76,7 @@ fn lengths_function(
     build_least(alloc, 0, sigs, &numbers, plan.method)
 }
 
-/// The sections of the kind `lcp`.
+/// The sections of the kind `lcp`, and what a signed dump keeps of the keys.
 fn lcp_sections(
     alloc: Global,
     keys: &KeyList,
@@ -90,15 +92,15 @@ fn lcp_sections(
     let LcpParts { lengths, prefixes } = lcp_parts(alloc, keys, plan.log_bucket)?;
     let lengths = lengths_function(alloc, &sigs, lengths, plan)?;
     let prefixes = prefixes_function(alloc, 1, keys, &prefixes, plan, seed)?;
-    Ok(vec![in alloc;
+    let sections = vec![in alloc;
         SectionBuf::Function(lengths),
         SectionBuf::Function(prefixes),
-    ]?)
+    ]?;
+    Ok(with_signatures(alloc, sections, &sigs, plan.signed)?)
 }
 
 /// Builds the functions of the kind `lcp`, by which each key is answered its number, and lays out
-/// their dump in words, or tells why the seed doesn't work. The plan is one of an unsigned `lcp`
-/// with blocks of at most 2 to the power 12 keys and signatures of at most 192 bits. Values of keys
+/// their dump in words, or tells why the seed doesn't work. The plan is one of `lcp` with blocks of at most 2 to the power 12 keys and signatures of at most 192 bits. Values of keys
 /// don't count.
 ///
 /// # Errors

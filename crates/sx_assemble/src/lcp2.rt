@@ -14,6 +14,7 @@ use crate::lcp::prefixes_function;
 use crate::numbers::{narrow_width, numbers_at, offset_numbers, widened};
 use crate::parts::{Stop, build_least, build_part};
 use crate::signatures::{sign_keys, signatures_at};
+use crate::signed::with_signatures;
 use crate::{Assembled, finished, header_of};
 use std::alloc::{AllocError, Global};
 use sx_bits::KeyList;
@@ -89,7 +90,7 @@ fn table_list(alloc: Global, lengths: &[u32], table: &[u32]) -> Result<PackedBuf
     packed_list(alloc, &widened(alloc, table)?, width)
 }
 
-/// The sections of the kind `lcp2`.
+/// The sections of the kind `lcp2`, and what a signed dump keeps of the keys.
 fn lcp2_sections(
     alloc: Global,
     keys: &KeyList,
@@ -109,18 +110,19 @@ fn lcp2_sections(
     let escaped = escaped_function(alloc, &sigs, &parts.lengths, &coded.escaped, plan.method)?;
     let prefixes = prefixes_function(alloc, 3, keys, &parts.prefixes, plan, seed)?;
     let table = table_list(alloc, &parts.lengths, &coded.table)?;
-    Ok(vec![in alloc;
+    let sections = vec![in alloc;
         SectionBuf::Function(offsets),
         SectionBuf::Function(codes),
         SectionBuf::Numbers(table),
         SectionBuf::Function(escaped),
         SectionBuf::Function(prefixes),
-    ]?)
+    ]?;
+    Ok(with_signatures(alloc, sections, &sigs, plan.signed)?)
 }
 
 /// Builds the functions and the table of the kind `lcp2`, by which each key is answered its number,
-/// and lays out their dump in words, or tells why the seed doesn't work. The plan is one of an
-/// unsigned `lcp2` with blocks of at most 2 to the power 12 keys and signatures of at most 192 bits.
+/// and lays out their dump in words, or tells why the seed doesn't work. The plan is one of
+/// `lcp2` with blocks of at most 2 to the power 12 keys and signatures of at most 192 bits.
 /// Values of keys don't count.
 ///
 /// # Errors

@@ -17,6 +17,7 @@ mod lcp2;
 mod numbers;
 mod parts;
 mod signatures;
+mod signed;
 
 use func::assemble_func;
 use hollow::assemble_hollow;

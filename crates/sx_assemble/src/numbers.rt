@@ -53,6 +53,17 @@ pub(crate) fn numbers_to(alloc: Global, count: u32) -> Result<Vec<u64>, AllocErr
     Ok(numbers)
 }
 
+/// The numbers from 0 up to before `count`, with 32 bits each.
+pub(crate) fn members_to(alloc: Global, count: u32) -> Result<Vec<u32>, AllocError>
+    ensures { IfOk result (λ members. members.items ≡ range_with_len 0 count) }
+{
+    let mut members = Vec::with_capacity(alloc, count as usize)?;
+    for i in 0..count {
+        members.push(i)?;
+    }
+    Ok(members)
+}
+
 /// For each of `count` keys its offset in its block of 2 to the power `log_bucket` keys.
 pub(crate) fn offset_numbers(
     alloc: Global,

@@ -5,6 +5,7 @@ ghost use Rattle.sx_spec.specs.declared.Method.TheVariants.{Mwhc};
 ghost use Rattle.sx_spec_program.specs.Program.{IsOfferedPlan};
 
 use crate::Assembled;
+use crate::numbers::numbers_to;
 use crate::tests::{assembled_under, keys_of};
 use std::marker::Brand;
 use std::process::Abort;
@@ -33,12 +34,28 @@ fn plan_of(kind: Kind, log_bucket: u32) -> Plan
     }
 }
 
-/// The words of the dump of the keys, for which seed 0 works.
+/// The same of a signed kind, with blocks of one key.
+fn signed_plan(kind: Kind, signed: u32) -> Plan
+    ensures { result ≡ record {
+      kind = kind;
+      method = Mwhc;
+      log_bucket = 0;
+      sig_bits = 192;
+      handle_bits = 0;
+      signed = signed;
+    } }
+{
+    let mut plan = plan_of(kind, 0);
+    plan.signed = signed;
+    plan
+}
+
+/// The words of the dump of the keys with their numbers, for which seed 0 works.
 fn ranked(rt: &(impl Abort + AllocGlobal), plan: &Plan, lines: &[&[u8]]) -> Result<Vec<u64>, Fail>
     requires { IsOfferedPlan plan.now }
 {
     let keys = keys_of(rt, lines)?;
-    let values = vec![in rt.alloc(); 0u64; keys.len() as usize]?;
+    let values = numbers_to(rt.alloc(), keys.len())?;
     let blank = Blank::new(1);
     let words = match assembled_under::<Brand>(rt.alloc(), &keys, &values, plan, blank)? {
         Assembled::Words(words) => Some(words),
@@ -99,5 +116,35 @@ fn sums_of_a_trie(rt: HostRuntime) -> Result<(), Fail> {
     let words = ranked(&rt, &plan_of(Kind::Hollow, 0), &[b"a"])?;
     assert_eq!(rt; (words.len(), words.get(4)), (16, Some(&1)));
     assert_eq!(rt; words.get(10..), Some([1, 1, 1, 1, 1, 1].as_slice()));
+    Ok(())
+}
+
+// three numbers of 64 bits: the last words of the signatures of a, b and c with seed 0
+const KEPT: [u64; 5] = [
+    3,
+    64,
+    0xC64F_75B3_1843_23FF,
+    0x5987_EA23_E098_0056,
+    0x42A3_8ADE_B388_42BD,
+];
+
+#[test]
+fn signatures_behind_sums(rt: HostRuntime) -> Result<(), Fail> {
+    let front = [0x3150_4D55_4458_5553, 22, 3, 0, 3, 0, 192, 0, 64, 0];
+    let words = ranked(&rt, &signed_plan(Kind::Hollow, 64), &[b"a", b"b", b"c"])?;
+    assert_eq!(rt; words.get(..10), Some(front.as_slice()));
+    assert_eq!(rt; words.get(10..17), Some([3, 3, 21, 3, 7, 0, 49].as_slice()));
+    assert_eq!(rt; words.get(17..), Some(KEPT.as_slice()));
+    Ok(())
+}
+
+#[test]
+fn signatures_behind_functions(rt: HostRuntime) -> Result<(), Fail> {
+    let words = ranked(&rt, &signed_plan(Kind::Func, 8), &[b"a", b"b"])?;
+    assert!(rt; words.ends_with(&[2, 8, 0x59C6]));
+    let words = ranked(&rt, &signed_plan(Kind::Lcp, 64), &[b"a", b"b", b"c"])?;
+    assert!(rt; words.ends_with(&KEPT));
+    let words = ranked(&rt, &signed_plan(Kind::Lcp2, 64), &[b"a", b"b", b"c"])?;
+    assert!(rt; words.ends_with(&KEPT));
     Ok(())
 }

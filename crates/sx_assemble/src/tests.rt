@@ -1,6 +1,7 @@
 //! Words of small dumps, and seeds that don't work.
 
-ghost use Rattle.std.specs.Prelude.{◌≡◌, length};
+ghost use Rattle.std.specs.Prelude.{◌≡◌, ◌≢◌, length};
+ghost use Rattle.sx_spec.specs.Values.{plain_values};
 ghost use Rattle.sx_spec_program.specs.Program.{IsOfferedPlan};
 ghost use Rattle.sx_steps.specs.Blanks.{IsBlankOf};
 
@@ -36,6 +37,8 @@ pub(crate) fn assembled_under<L: Ledger>(
     requires blank { IsBlankOf L.Ledger blank }
     requires plan { IsOfferedPlan plan.now }
     requires values { length values.now ≡ length keys.now.lines }
+    requires ranks { plan.now.signed ≢ 0
+        → values.now ≡ plain_values (length keys.now.lines) }
 {
     let mut steps = Steps::<L>::new(blank);
     assemble(alloc, keys, values, plan, 0, &mut steps)

@@ -1,5 +1,5 @@
 -- What a query promises whose dump was opened.
-use Rattle.std.proofs.Common.{◌≡◌, ℕ, ◌+◌, ◌<◌, ◌≤◌, length, sym, subst, inl, inr}
+use Rattle.std.proofs.Common.{◌≡◌, ℕ, None, ◌+◌, ◌<◌, ◌≤◌, length, sym, subst, inl, inr}
 use Rattle.sx_spec.specs.declared.Status.{Status}
 use Rattle.sx_spec.specs.declared.Status.TheVariants.{BadInput}
 use Rattle.sx_spec.specs.Causes.{is_fault}
@@ -9,11 +9,11 @@ use Rattle.sx_spec.specs.Layout.{Dump}
 use Rattle.sx_spec.specs.Messages.{long_query_text, many_queries_text}
 use Rattle.sx_spec.specs.Outcomes.{IsStored}
 use Rattle.sx_spec.specs.Run.{Promise}
-use Rattle.sx_spec.specs.World.{World, CountsStay, KeepsFiles, KeepsInput}
+use Rattle.sx_spec.specs.World.{World, CountsStay, KeepsFiles, KeepsInput, world}
 use Rattle.sx_spec_program.specs.Program.{sux_program}
 use Rattle.sx_cli.specs.declared.serve.Served.{Served}
 use Rattle.sx_cli.specs.declared.serve.Served.TheVariants.{Done, TooLong, TooMany, InputFailed, OutputFailed}
-use Rattle.sx_cli.specs.Serving.{Streams, ServedTo, Ends}
+use Rattle.sx_cli.specs.Serving.{ServedTo, Ends}
 use Rattle.sx_cli.specs.Telling.{Tells}
 use Rattle.sx_cli.proofs.FirstFaults.{long_query_is, many_queries_is}
 use Rattle.sx_cli.proofs.Queries.{file_failed, dump_refused, query_memory, query_done, input_failed, answers_failed, line_refused}
@@ -22,11 +22,11 @@ use Rattle.std.specs.Io.KnownBytes.{Keeps}
 use Rattle.sx_cli.specs.Lines.{longest_line}
 
 module _ (name : Text) (before after : World) (ticks : ℕ) (result : Status) (counts : CountsStay (is_fault result) before after) (d : Dump) (stored : IsStored sux_program name before d) where
-  abbrev old : Streams
-  old = record { input = before.input; out = before.out; input_faults = before.faults.input; out_faults = before.faults.out }
+  abbrev old : World
+  old = world None before.input before.out None 0 before.faults.input before.faults.out 0
 
-  abbrev new : Streams
-  new = record { input = after.input; out = after.out; input_faults = after.faults.input; out_faults = after.faults.out }
+  abbrev new : World
+  new = world None after.input after.out None 0 after.faults.input after.faults.out 0
 
   -- what the lines came to is as much of what is due as could be done
   pub served_ends : (served : Served) → ServedTo d old new ticks served → KeepsFiles before.files after.files → Ends served before.err after.err before.faults.err after.faults.err result

@@ -1,5 +1,5 @@
 -- What a build promises whose keys and values were read.
-use Rattle.std.proofs.Common.{◌≡◌, ◌≤◌, ℕ, List, length, arith, refl, sym, subst, ap, ◌∙◌, inl, inr, ◌⊎◌, Option, Some, None}
+use Rattle.std.proofs.Common.{◌≡◌, ◌≢◌, ◌≤◌, ℕ, List, length, arith, refl, sym, subst, ap, ◌∙◌, inl, inr, ◌⊎◌, Option, Some, None}
 use Rattle.std.specs.Prelude.{IsSome}
 use Rattle.std.specs.Io.KnownBytes.{Keeps}
 use Rattle.std.proofs.lemmas.List.FromFn.{length-range_with_len}
@@ -12,13 +12,14 @@ use Rattle.sx_spec.specs.Layout.{words_bytes}
 use Rattle.sx_spec.specs.Messages.{at_values, memory_text, key_text, values_text}
 use Rattle.sx_spec.specs.Outcomes.{GivesValues}
 use Rattle.sx_spec.specs.Run.{Promise}
-use Rattle.sx_spec.specs.World.{World, Files, CountsStay, KeepsFiles}
-use Rattle.sx_spec_program.specs.Program.{sux_program}
+use Rattle.sx_spec.specs.Values.{plain_values}
+use Rattle.sx_spec.specs.World.{World, Files, CountsStay, KeepsFiles, world}
+use Rattle.sx_spec_program.specs.Program.{sux_program, IsOfferedBuild}
 use Rattle.sx_edge.specs.Kept.{KeepsFiles-trans}
 use Rattle.sx_edge.proofs.Files.{SetsFile-after_kept}
 use Rattle.sx_cli.specs.Building.{RefusesLine}
 use Rattle.sx_cli.specs.Progress.{ReadsAll}
-use Rattle.sx_cli.specs.Storing.{Outside, GivenEnds, Stores}
+use Rattle.sx_cli.specs.Storing.{GivenEnds, Stores}
 use Rattle.sx_cli.specs.Telling.{Tells, Fails}
 use Rattle.sx_cli.specs.ValueLines.{Given, StopsGiving}
 use Rattle.sx_text.specs.Reasons.{values_fault_of}
@@ -39,6 +40,10 @@ gives (Some name) keys before vs given = given.told
 pub many : (values : Option Text) (keys : ℕ) (files : Option Files) (vs : List ℕ) → Given values keys files vs → length vs ≡ keys
 many None keys files vs given = ap (λ (l : List ℕ). length l) given ∙ length-range_with_len 0 keys
 many (Some name) keys files vs given = given.as_many
+
+-- with a signed width no file of values is named, so the values are the keys' numbers
+pub numbers : (t : BuildTask) (keys : ℕ) (files : Option Files) (vs : List ℕ) → IsOfferedBuild t → Given t.values keys files vs → t.plan.signed ≢ 0 → vs ≡ plain_values keys
+numbers t keys files vs offered given width = subst (λ (v : Option Text). Given v keys files vs) (offered.values width) given
 
 module _ (t : BuildTask) (before after : World) (ticks : ℕ) (result : Status) (counts : CountsStay (is_fault result) before after) where
   -- either message is one that may come
@@ -65,11 +70,11 @@ module _ (t : BuildTask) (before after : World) (ticks : ℕ) (result : Status) 
 
   module _ (keys : List Text) (all : ReadsAll before.input after.input keys) (valid : AreKeys standard_limits keys) (vs : List ℕ) (given : Given t.values (length keys) before.files vs)
       (files : Option Files) (shelf_faults : ℕ) (kept : KeepsFiles before.files files) (later : before.faults.shelf ≤ shelf_faults) where
-    abbrev old : Outside
-    old = record { files = files; out = before.out; err = before.err; shelf_faults = shelf_faults; out_faults = before.faults.out; err_faults = before.faults.err }
+    abbrev old : World
+    old = world files None before.out before.err shelf_faults 0 before.faults.out before.faults.err
 
-    abbrev new : Outside
-    new = record { files = after.files; out = after.out; err = after.err; shelf_faults = after.faults.shelf; out_faults = after.faults.out; err_faults = after.faults.err }
+    abbrev new : World
+    new = world after.files None after.out after.err after.faults.shelf 0 after.faults.out after.faults.err
 
     -- what the keys and values come to is what is due
     pub given_ends : GivenEnds t keys vs old new result → Promise sux_program (build t) before after ticks result

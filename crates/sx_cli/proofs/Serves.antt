@@ -11,11 +11,12 @@ use Rattle.sx_spec.specs.Layout.{Dump}
 use Rattle.sx_spec.specs.Outcomes.{max_queries}
 use Rattle.sx_spec.specs.Reply.{answers, reply, reply_text, reads, all_reads}
 use Rattle.sx_spec.specs.Causes.{Rose}
+use Rattle.sx_spec.specs.World.{World}
 use Rattle.sx_edge.specs.Parts.{AppendsPrefix}
 use Rattle.sx_edge.specs.Reading.{Reading, GivesLine, GivesEnd, FailsRead, IsTooLong}
 use Rattle.sx_cli.specs.Progress.{ReadsAll, FailsBehind, BreaksBehind, StopsAt, Begins}
 use Rattle.sx_cli.specs.Served.{Answers}
-use Rattle.sx_cli.specs.Serving.{Serving, Streams, InputBroken, OutputBroken, ServedTo, WritesHeld, Finishes}
+use Rattle.sx_cli.specs.Serving.{Serving, InputBroken, OutputBroken, ServedTo, WritesHeld, Finishes}
 use Rattle.sx_cli.specs.declared.serve.Served.{Served}
 use Rattle.sx_cli.specs.declared.serve.Served.TheVariants.{Done, TooLong, TooMany}
 use Rattle.sx_cli.proofs.Advances.{starts, stops_at_last}
@@ -128,9 +129,9 @@ stopped_behind old new ls IsLine stops = record { taken = stops.taken; consumed 
     told None h = tt
     told (Some bytes) (rest, other, is, are) = (other ∷ rest, are)
 
-module _ (d : Dump) (old new : Streams) (now mid : Option (List ℕ)) (reader : Reading) (held : List ℕ) (ticks : ℕ) (s : Serving d old.input now reader old.out mid held ticks) where
+module _ (d : Dump) (old new : World) (now mid : Option (List ℕ)) (reader : Reading) (held : List ℕ) (ticks : ℕ) (s : Serving d old.input now reader old.out mid held ticks) where
   -- a write failed
-  pub output_broken : (between : ℕ) → BreaksBehind old.input new.input s.lines → AppendsPrefix mid new.out held → old.out_faults ≤ between → Rose between new.out_faults → OutputBroken d old new ticks
+  pub output_broken : (between : ℕ) → BreaksBehind old.input new.input s.lines → AppendsPrefix mid new.out held → old.faults.out ≤ between → Rose between new.faults.out → OutputBroken d old new ticks
   output_broken between behind part later rose = record {
     lines = s.lines;
     behind = behind;
@@ -141,26 +142,26 @@ module _ (d : Dump) (old new : Streams) (now mid : Option (List ℕ)) (reader : 
   }
 
   -- the last answers were written, or a write failed
-  pub finished : (between : ℕ) (served result : Served) → (Answers d s.lines old.out new.out ticks → ServedTo d old new ticks served) → BreaksBehind old.input new.input s.lines → old.out_faults ≤ between
-      → Finishes held mid new.out between new.out_faults served result → ServedTo d old new ticks result
+  pub finished : (between : ℕ) (served result : Served) → (Answers d s.lines old.out new.out ticks → ServedTo d old new ticks served) → BreaksBehind old.input new.input s.lines → old.faults.out ≤ between
+      → Finishes held mid new.out between new.faults.out served result → ServedTo d old new ticks result
   finished between served result ends behind later (inl f) = subst (ServedTo d old new ticks) (sym f.is) (ends (all_answered d old.input now reader old.out mid new.out held ticks s f.out))
   finished between served result ends behind later (inr u) = subst (ServedTo d old new ticks) (sym u.is) (output_broken between behind u.out later u.cause)
 
   -- at the end of input
-  pub ends_done : (after : Reading) → GivesEnd reader after now new.input → (between : ℕ) (result : Served) → old.out_faults ≤ between → Finishes held mid new.out between new.out_faults Done result → ServedTo d old new ticks result
+  pub ends_done : (after : Reading) → GivesEnd reader after now new.input → (between : ℕ) (result : Served) → old.faults.out ≤ between → Finishes held mid new.out between new.faults.out Done result → ServedTo d old new ticks result
   ends_done after gives between result later finishes =
       let all = at_end old.input now new.input reader after s.lines s.progress gives in
       finished between Done result (λ a. record { lines = s.lines; all = all; answered = a }) (read_behind old.input new.input s.lines all) later finishes
 
   -- at a line that is too long
-  pub ends_long : (after : Reading) (n : ℕ) → IsTooLong reader after now new.input n → (between : ℕ) (result : Served) → old.out_faults ≤ between → Finishes held mid new.out between new.out_faults (TooLong n) result → ServedTo d old new ticks result
+  pub ends_long : (after : Reading) (n : ℕ) → IsTooLong reader after now new.input n → (between : ℕ) (result : Served) → old.faults.out ≤ between → Finishes held mid new.out between new.faults.out (TooLong n) result → ServedTo d old new ticks result
   ends_long after n long between result later finishes =
       let stops = subst (λ (m : ℕ). StopsAt old.input new.input s.lines (λ line. m < length line)) s.max (at_long_line old.input now new.input reader after s.lines s.progress n long) in
       finished between (TooLong n) result (λ a. record { lines = s.lines; stops = stops; at = long.at ∙ ap (λ (m : ℕ). m + 1) s.number; answered = a })
       (stopped_behind old.input new.input s.lines _ stops) later finishes
 
   -- at a line too many
-  pub ends_many : (after : Reading) → GivesLine reader after now new.input → max_queries < after.number → (between : ℕ) (result : Served) → old.out_faults ≤ between → Finishes held mid new.out between new.out_faults TooMany result → ServedTo d old new ticks result
+  pub ends_many : (after : Reading) → GivesLine reader after now new.input → max_queries < after.number → (between : ℕ) (result : Served) → old.faults.out ≤ between → Finishes held mid new.out between new.faults.out TooMany result → ServedTo d old new ticks result
   ends_many after gives over between result later finishes =
       let short : length gives.line ≤ longest_line = subst (λ (n : ℕ). length gives.line ≤ n) s.max (line_short old.input now new.input reader after s.lines s.progress gives gives.line gives.is) in
       let stops = stops_at_last old.input new.input after.held after.ended s.lines gives.line (λ line. length line ≤ longest_line) short (after_line old.input now new.input reader after s.lines s.progress gives gives.line gives.is) in
@@ -171,7 +172,7 @@ module _ (d : Dump) (old new : Streams) (now mid : Option (List ℕ)) (reader : 
       (stopped_behind old.input new.input s.lines _ stops) later finishes
 
   -- where input failed, nothing was held
-  pub ends_broken : (after : Reading) → FailsRead reader after now new.input → held ≡ [] → mid ≡ new.out → (between : ℕ) → old.input_faults ≤ between → Rose between new.input_faults → InputBroken d old new ticks
+  pub ends_broken : (after : Reading) → FailsRead reader after now new.input → held ≡ [] → mid ≡ new.out → (between : ℕ) → old.faults.input ≤ between → Rose between new.faults.input → InputBroken d old new ticks
   ends_broken after fails none same between later rose = record {
     lines = s.lines;
     fails = subst (λ (m : ℕ). FailsBehind old.input new.input m s.lines) s.max (at_fault old.input now new.input reader after s.lines s.progress fails);

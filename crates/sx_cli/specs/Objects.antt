@@ -1,5 +1,5 @@
 -- What the objects that a run is handed are to a contract: each by its trait and its state.
-use Rattle.std.specs.Prelude.{◌≡◌, ℕ, ◌⊎◌, List, Option}
+use Rattle.std.specs.Prelude.{◌≡◌, ℕ, ◌⊎◌, List, Option, None}
 use Rattle.sx_edge.specs.declared.shelf.Shelf.{Ghosts as ShelfGhosts}
 use Rattle.sx_edge.specs.declared.sink.Sink.{Ghosts as SinkGhosts}
 use Rattle.sx_edge.specs.declared.source.Source.{Ghosts as SourceGhosts}
@@ -9,9 +9,8 @@ use Rattle.sx_spec.specs.Command.{Text}
 use Rattle.sx_spec.specs.Messages.{Place, memory_text}
 use Rattle.sx_spec.specs.World.{World, world}
 use Rattle.sx_cli.specs.declared.serve.Served.{Served}
-use Rattle.sx_cli.specs.Serving.{Streams, Ends, Finishes}
+use Rattle.sx_cli.specs.Serving.{Ends, Finishes}
 use Rattle.sx_cli.specs.Showing.{Shows}
-use Rattle.sx_cli.specs.Storing.{Outside}
 use Rattle.sx_cli.specs.Telling.{Tells, Fails}
 
 module _ {F S O E : Type 0} (f : ShelfGhosts F) (s : SourceGhosts S) (o : SinkGhosts O) (e : SinkGhosts E) where
@@ -26,26 +25,14 @@ module _ {F O E : Type 0} (f : ShelfGhosts F) (o : SinkGhosts O) (e : SinkGhosts
   world_with input input_faults files out err =
       world (f.files files) input (o.written out) (e.written err) (f.faults files) input_faults (o.faults out) (e.faults err)
 
-  -- files, out and err
-  abbrev pub outside_of : F → O → E → Outside
-  outside_of files out err = record {
-    files = f.files files;
-    out = o.written out;
-    err = e.written err;
-    shelf_faults = f.faults files;
-    out_faults = o.faults out;
-    err_faults = e.faults err;
-  }
+  -- the same without an input
+  abbrev pub world_without_input : F → O → E → World
+  world_without_input files out err = world_with None 0 files out err
 
 module _ {S O : Type 0} (s : SourceGhosts S) (o : SinkGhosts O) where
-  -- input and out
-  abbrev pub streams_of : S → O → Streams
-  streams_of input out = record {
-    input = s.left input;
-    out = o.written out;
-    input_faults = s.faults input;
-    out_faults = o.faults out;
-  }
+  -- input and out alone
+  abbrev pub world_of_streams : S → O → World
+  world_of_streams input out = world None (s.left input) (o.written out) None 0 (s.faults input) (o.faults out) 0
 
 module _ {E : Type 0} (e : SinkGhosts E) where
   -- err got the message, or a write of it failed

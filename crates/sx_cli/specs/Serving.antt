@@ -6,6 +6,7 @@ use Rattle.sx_spec.specs.Command.{Text}
 use Rattle.sx_spec.specs.Layout.{Dump}
 use Rattle.sx_spec.specs.Messages.{at_input, at_output, long_query_text, many_queries_text}
 use Rattle.sx_spec.specs.Outcomes.{max_queries}
+use Rattle.sx_spec.specs.World.{World}
 use Rattle.sx_spec.specs.declared.Status.{Status}
 use Rattle.sx_spec.specs.declared.Status.TheVariants.{Done as AllDone, BadInput}
 use Rattle.sx_cli.specs.Telling.{Tells, Fails}
@@ -18,13 +19,6 @@ use Rattle.sx_cli.specs.Progress.{Progress, ReadsAll, FailsBehind, BreaksBehind,
 use Rattle.sx_cli.specs.Served.{AreQueries, Answers}
 use Rattle.sx_cli.specs.Lines.{longest_line}
 
--- what input and out hold and how many faults each has counted
-pub record Streams : Type 0 where
-  pub input : Option (List ℕ)
-  pub out : Option (List ℕ)
-  pub input_faults : ℕ
-  pub out_faults : ℕ
-
 -- whether the lines came to an end since input has failed
 abbrev pub input_failed : Served → Bool
 input_failed InputFailed = true
@@ -36,43 +30,43 @@ out_failed OutputFailed = true
 out_failed _ = false
 
 -- all lines were answered
-pub record AllServed (d : Dump) (old new : Streams) (ticks : ℕ) : Type 0 where
+pub record AllServed (d : Dump) (old new : World) (ticks : ℕ) : Type 0 where
   pub lines : List Text
   pub all : ReadsAll old.input new.input lines
   pub answered : Answers d lines old.out new.out ticks
 
 -- a line is too long; those before it were answered
-pub record LongLine (d : Dump) (old new : Streams) (ticks number : ℕ) : Type 0 where
+pub record LongLine (d : Dump) (old new : World) (ticks number : ℕ) : Type 0 where
   pub lines : List Text
   pub stops : StopsAt old.input new.input lines (λ line. longest_line < length line)
   pub at : number ≡ length lines + 1
   pub answered : Answers d lines old.out new.out ticks
 
 -- a line is one too many; those before it were answered
-pub record OneTooMany (d : Dump) (old new : Streams) (ticks : ℕ) : Type 0 where
+pub record OneTooMany (d : Dump) (old new : World) (ticks : ℕ) : Type 0 where
   pub lines : List Text
   pub stops : StopsAt old.input new.input lines (λ line. length line ≤ longest_line)
   pub many : length lines ≡ max_queries
   pub answered : Answers d lines old.out new.out ticks
 
 -- input failed; the complete lines before were answered
-pub record InputBroken (d : Dump) (old new : Streams) (ticks : ℕ) : Type 0 where
+pub record InputBroken (d : Dump) (old new : World) (ticks : ℕ) : Type 0 where
   pub lines : List Text
   pub fails : FailsBehind old.input new.input longest_line lines
   pub answered : Answers d lines old.out new.out ticks
-  pub cause : Rose old.input_faults new.input_faults
+  pub cause : Rose old.faults.input new.faults.input
 
 -- a write failed; out got a prefix of the answers to these lines
-pub record OutputBroken (d : Dump) (old new : Streams) (ticks : ℕ) : Type 0 where
+pub record OutputBroken (d : Dump) (old new : World) (ticks : ℕ) : Type 0 where
   pub lines : List Text
   pub behind : BreaksBehind old.input new.input lines
   pub queries : AreQueries lines
   pub bound : ticks ≤ all_reads d lines
   pub out : AppendsPrefix old.out new.out (answers d lines)
-  pub cause : Rose old.out_faults new.out_faults
+  pub cause : Rose old.faults.out new.faults.out
 
 -- what the lines came to
-abbrev pub ServedTo : Dump → Streams → Streams → ℕ → Served → Type 0
+abbrev pub ServedTo : Dump → World → World → ℕ → Served → Type 0
 ServedTo d old new ticks Done = AllServed d old new ticks
 ServedTo d old new ticks (TooLong line) = LongLine d old new ticks line
 ServedTo d old new ticks TooMany = OneTooMany d old new ticks

@@ -1,14 +1,15 @@
 //! The command `build`.
-ghost use Rattle.std.specs.Prelude.{◌≡◌, ◌≤◌, ◌⊎◌, ℕ, MatchResult, length};
+ghost use Rattle.std.specs.Prelude.{◌≡◌, ◌≢◌, ◌≤◌, ◌⊎◌, ℕ, MatchResult, length};
 ghost use Rattle.sx_edge.specs.Shelf.{idle};
 ghost use Rattle.sx_spec.specs.declared.Status.TheVariants.{BadInput, Memory};
 ghost use Rattle.sx_spec.specs.Causes.{StaysUnless, is_fault};
 ghost use Rattle.sx_spec.specs.Command.{build as build_of_task};
 ghost use Rattle.sx_spec.specs.Messages.{key_text, values_text, memory_text};
 ghost use Rattle.sx_spec.specs.Run.{Promise};
+ghost use Rattle.sx_spec.specs.Values.{plain_values};
 ghost use Rattle.sx_spec.specs.World.{world, KeepsFiles};
-ghost use Rattle.sx_spec_program.specs.Program.{sux_program, IsOfferedPlan};
-ghost use Rattle.sx_cli.specs.Objects.{world_of, outside_of, TellsOrWants};
+ghost use Rattle.sx_spec_program.specs.Program.{sux_program, IsOfferedPlan, IsOfferedBuild};
+ghost use Rattle.sx_cli.specs.Objects.{world_of, world_without_input, TellsOrWants};
 ghost use Rattle.sx_cli.specs.Building.{build_of};
 ghost use Rattle.sx_text.specs.Reasons.{fault_of};
 ghost use Rattle.sx_cli.specs.Storing.{Stores, GivenEnds};
@@ -66,7 +67,8 @@ fn values_for<F: Shelf>(
     requires { F.in_use files.old ≡ idle }
     ensures values { MatchResult result
         (λ v. Given task.now.values keys (F.files files.old) v.items)
-        (StopsGiving task.now.values keys (F.files files.old) (F.faults files.old) (F.faults files.new)) }
+        (StopsGiving task.now.values keys (F.files files.old) (F.faults files.old)
+        (F.faults files.new)) }
     ensures files { KeepsFiles (F.files files.old) (F.files files.new) }
     ensures counts { StaysUnless (values_failed result) (F.faults files.old) (F.faults files.new) }
     ensures closed { F.in_use files.new ≡ idle }
@@ -91,8 +93,8 @@ fn store<F: Shelf, O: Sink, E: Sink>(
 ) -> Status
     requires { F.in_use files.old ≡ idle }
     ensures stored { Stores name.now words.now line.now
-        (outside_of F.Shelf O.Sink E.Sink files.old out.old err.old)
-        (outside_of F.Shelf O.Sink E.Sink files.new out.new err.new)
+        (world_without_input F.Shelf O.Sink E.Sink files.old out.old err.old)
+        (world_without_input F.Shelf O.Sink E.Sink files.new out.new err.new)
         result }
     ensures closed { F.in_use files.new ≡ idle }
     ensures counts { StaysUnless (is_fault result) (F.faults files.old) (F.faults files.new) }
@@ -108,7 +110,8 @@ fn store<F: Shelf, O: Sink, E: Sink>(
     }
 }
 
-/// Builds and stores the dump of these keys and values, or tells why no seed works.
+/// Builds and stores the dump of these keys and values, or tells why no seed works. With a signed
+/// width the values are the keys' numbers.
 fn build_given<F: Shelf, O: Sink, E: Sink, L: Ledger>(
     alloc: Global,
     task: &BuildTask,
@@ -122,9 +125,11 @@ fn build_given<F: Shelf, O: Sink, E: Sink, L: Ledger>(
     requires idle { F.in_use files.old ≡ idle }
     requires values { length values.now ≡ length keys.now.lines }
     requires plan { IsOfferedPlan task.now.plan }
+    requires ranks { task.now.plan.signed ≢ 0
+        → values.now ≡ plain_values (length keys.now.lines) }
     ensures ends { GivenEnds (build_of task.now) keys.now.lines values.now
-        (outside_of F.Shelf O.Sink E.Sink files.old out.old err.old)
-        (outside_of F.Shelf O.Sink E.Sink files.new out.new err.new)
+        (world_without_input F.Shelf O.Sink E.Sink files.old out.old err.old)
+        (world_without_input F.Shelf O.Sink E.Sink files.new out.new err.new)
         result }
     ensures closed { F.in_use files.new ≡ idle }
     ensures counts { StaysUnless (is_fault result) (F.faults files.old) (F.faults files.new) }
@@ -154,7 +159,7 @@ fn build_given<F: Shelf, O: Sink, E: Sink, L: Ledger>(
 }
 
 /// Reads keys from input, and their values from a file where one is named, and writes the dump of
-/// the static function that gives each key its value or number, then a line on it to out.
+/// the task's kind, which gives each key its value or number, then a line on it to out.
 pub fn build<F: Shelf, S: Source, O: Sink, E: Sink, L: Ledger>(
     alloc: Global,
     task: &BuildTask,
@@ -165,7 +170,7 @@ pub fn build<F: Shelf, S: Source, O: Sink, E: Sink, L: Ledger>(
     steps: &mut Steps<L>,
 ) -> Status
     requires idle { F.in_use files.old ≡ idle }
-    requires plan { IsOfferedPlan task.now.plan }
+    requires offered { IsOfferedBuild (build_of task.now) }
     ensures promise { (ticks : ℕ) → Promise sux_program (build_of_task (build_of task.now))
         (world_of F.Shelf S.Source O.Sink E.Sink files.old input.old out.old err.old)
         (world_of F.Shelf S.Source O.Sink E.Sink files.new input.new out.new err.new)

@@ -1,7 +1,8 @@
 //! The seeds of a build, in order.
-ghost use Rattle.std.specs.Prelude.{◌≡◌, ◌≤◌, ◌<◌, ◌^◌, ◌++◌, IfOk, OnOk, All, length};
+ghost use Rattle.std.specs.Prelude.{◌≡◌, ◌≢◌, ◌≤◌, ◌<◌, ◌^◌, ◌++◌, IfOk, OnOk, All, length};
 ghost use Rattle.sx_spec_kinds.specs.declared.Kind.TheVariants.{Func};
 ghost use Rattle.sx_spec.specs.Messages.{no_seed_text};
+ghost use Rattle.sx_spec.specs.Values.{plain_values};
 ghost use Rattle.sx_spec_program.specs.Program.{IsOfferedPlan};
 ghost use Rattle.sx_cli.specs.Building.{IsTried};
 
@@ -34,6 +35,8 @@ pub fn try_seeds<L: Ledger>(
 ) -> Result<Tried, AllocError>
     requires values { length values.now ≡ length keys.now.lines }
     requires plan { IsOfferedPlan plan.now }
+    requires ranks { plan.now.signed ≢ 0
+        → values.now ≡ plain_values (length keys.now.lines) }
     ensures tried { IfOk result (IsTried plan.now seeds.now keys.now.lines values.now) }
     ensures counted { steps.old ≤ steps.new }
 {

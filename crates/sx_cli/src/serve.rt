@@ -4,7 +4,7 @@ ghost use Rattle.sx_edge.specs.Parts.{AppendsPrefix};
 ghost use Rattle.sx_spec.specs.Causes.{HasCause, StaysUnless};
 ghost use Rattle.sx_spec.specs.Reply.{answers, reads};
 ghost use Rattle.sx_dump.specs.Opening.{dump_in};
-ghost use Rattle.sx_cli.specs.Objects.{streams_of, FinishesOn};
+ghost use Rattle.sx_cli.specs.Objects.{world_of_streams, FinishesOn};
 ghost use Rattle.sx_cli.specs.Serving.{input_failed, out_failed, ServedTo, WritesHeld};
 ghost use Rattle.sx_cli.specs.Lines.{longest_line};
 
@@ -104,8 +104,8 @@ pub fn serve<B: WordBank + Copy, S: Source, O: Sink, L: Ledger>(
     } }
     requires empty { replies.old ≡ [] }
     ensures served { ServedTo (dump_in (B.words_of dump.now.bank))
-        (streams_of S.Source O.Sink input.old out.old)
-        (streams_of S.Source O.Sink input.new out.new)
+        (world_of_streams S.Source O.Sink input.old out.old)
+        (world_of_streams S.Source O.Sink input.new out.new)
         (steps.new - steps.old) result }
     ensures empty { result ≢ Served.OutputFailed → replies.new ≡ [] }
     ensures counted { steps.old ≤ steps.new }

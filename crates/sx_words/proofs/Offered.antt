@@ -1,25 +1,23 @@
--- A plan that words ask for is one that the program offers.
-use Rattle.std.proofs.Common.{◌≡◌, ℕ, ◌^◌, Bool, true, false, ◌&&◌, ◌||◌, List, [], ◌∷◌, Option, Some, None, ◌∙◌, refl, sym, ap, subst, arith, lit≤}
-use Rattle.std.specs.Prelude.{not, find, drop, is_some, slice_get, codes, unwrap_or, option_map, option_and_then, if◌then◌else◌}
-use Rattle.std.specs.List.{list_all, list_any}
+-- What the words of a build ask for is what the program offers.
+use Rattle.std.proofs.Common.{◌≡◌, ◌≢◌, ℕ, ◌^◌, Bool, true, false, ◌&&◌, ◌||◌, List, [], ◌∷◌, Option, Some, None, ◌∙◌, refl, sym, ap, subst, lit≤}
+use Rattle.std.specs.Prelude.{not, find, drop, is_some, slice_get, codes, unwrap_or, option_and_then, if◌then◌else◌}
+use Rattle.std.specs.List.{list_any}
 use Rattle.std.specs.Str.{bytes_eq}
-use Rattle.std.proofs.lemmas.Bool.{and_parts}
 use Rattle.std.proofs.lemmas.Slice.Eq.{bytes_eq-Decides}
 use Rattle.sx_spec_kinds.specs.declared.Kind.{Kind}
 use Rattle.sx_spec_kinds.specs.declared.Kind.TheVariants.{Func, Lcp, Lcp2, Hollow, HollowDist, Zfast}
 use Rattle.sx_spec.specs.declared.Method.TheVariants.{Mwhc}
-use Rattle.sx_spec.specs.declared.OptionName.{OptionName}
-use Rattle.sx_spec.specs.declared.OptionName.TheVariants.{Seeds, Method as MethodName, LogBucket, SigBits, HandleBits, Signed, Values}
+use Rattle.sx_spec.specs.declared.OptionName.TheVariants.{Method as MethodName, LogBucket, SigBits, HandleBits, Signed, Values}
 use Rattle.sx_spec.specs.declared.Rule.{Rule}
-use Rattle.sx_spec.specs.declared.Rule.TheVariants.{UnknownCommand, UnknownKind, BadWords}
+use Rattle.sx_spec.specs.declared.Rule.TheVariants.{UnknownCommand, UnknownKind, BadWords, SignedAndValues}
 use Rattle.sx_spec.specs.Kinds.{kind_word, uses_buckets, uses_handles, uses_method}
 use Rattle.sx_spec.specs.Values.{number_below}
 use Rattle.sx_spec.specs.Layout.{kinds}
-use Rattle.sx_spec.specs.Command.{Text, Setting, Split, BuildTask, Task, usage, build, query, open_dump, show_dump, command, verbs, verb_task, for_split, for_kind, unless, trial_task, number_within, well_formed, split_words, split_plain, positional, setting, same_option, kind_named, method_named, options_rule, option_names, build_task, plan_of, number_of}
+use Rattle.sx_spec.specs.Command.{Text, Split, BuildTask, Task, usage, build, query, open_dump, show_dump, command, verbs, verb_task, for_split, for_kind, unless, trial_task, number_within, well_formed, split_words, split_plain, positional, setting, is_given, kind_named, method_named, options_rule, option_names, build_task}
 use Rattle.sx_spec_program.specs.Offer.{offered, offered_build, offers_kind, offers_options, offers_kind_word}
-use Rattle.sx_spec_program.specs.Program.{sux_offer, IsOfferedPlan}
+use Rattle.sx_spec_program.specs.Program.{sux_offer, IsOfferedBuild}
 use Rattle.sx_words.specs.Rules.{has_bad_value, is_unfit}
-use Rattle.sx_words.proofs.Plans.{no_first, no_rule, none_found, number_fits}
+use Rattle.sx_words.proofs.Plans.{no_first, no_pair, no_rule, none_found, number_fits}
 use Rattle.sx_words.proofs.Verdicts.{rule_is}
 
 -- ---- the pieces
@@ -55,25 +53,11 @@ no_method false None unfit none = refl
 no_method false (Some word) unfit none = absurd cc
 no_method true o unfit none = absurd cc
 
--- a signed width isn't offered
-no_signed : (settings : List Setting) → list_all (λ t. list_any (same_option t.name) sux_offer.options) settings ≡ true → find (λ t. same_option Signed t.name) settings ≡ None
-no_signed [] offers = refl
-no_signed (t ∷ settings) offers = by_name t.name t refl (no_signed settings rest)
-  where
-    rest : list_all (λ t. list_any (same_option t.name) sux_offer.options) settings ≡ true
-    rest = (and_parts (list_any (same_option t.name) sux_offer.options) (list_all (λ t. list_any (same_option t.name) sux_offer.options) settings) offers).1
-
-    here : list_any (same_option t.name) sux_offer.options ≡ true
-    here = (and_parts (list_any (same_option t.name) sux_offer.options) (list_all (λ t. list_any (same_option t.name) sux_offer.options) settings) offers).0
-
-    by_name : (name : OptionName) (x : Setting) → name ≡ t.name → find (λ t. same_option Signed t.name) settings ≡ None → (if same_option Signed name then Some x else find (λ t. same_option Signed t.name) settings) ≡ None
-    by_name Seeds x is more = more
-    by_name MethodName x is more = more
-    by_name LogBucket x is more = more
-    by_name SigBits x is more = more
-    by_name HandleBits x is more = more
-    by_name Signed x is more = absurd (let h : list_any (same_option Signed) sux_offer.options ≡ true = ap (λ (n : OptionName). list_any (same_option n) sux_offer.options) is ∙ here in cc)
-    by_name Values x is more = more
+-- a signed width leaves no place for a file of values, since only one of the two may be given
+no_values : (signed values : Option Text) → (is_some signed && is_some values) ≡ false → unwrap_or (option_and_then (number_below (2 ^ 64)) signed) 0 ≢ 0 → values ≡ None
+no_values None values alone width = absurd (width refl)
+no_values (Some text) None alone width = refl
+no_values (Some text) (Some name) alone width = absurd cc
 
 -- ---- the command
 
@@ -132,47 +116,50 @@ build_word word rest b e = by_tests (bytes_eq (codes "build") word) refl (bytes_
     by_tests false is false false false true h = no_other (well_formed 2 (split_plain rest)) (λ s. for_kind (positional s 0) (λ kind. trial_task kind (number_within 0 1000000 (positional s 1)))) b (λ s q. no_trial s b q) h
     by_tests false is false false false false h = absurd cc
 
--- ---- the plan
+-- ---- the plan and the values
 
--- the plan is one that is offered
-options_fit : (s : Split) (kind : Kind) → offers_kind sux_offer kind ≡ true → offers_options sux_offer s ≡ true → options_rule s kind ≡ None → IsOfferedPlan (plan_of s kind)
-options_fit s kind kind_offered offers free =
-    let good = none_found (has_bad_value s) option_names (no_rule (find (has_bad_value s) option_names) _ _ (sym (rule_is s kind) ∙ free)) in
-    let fit = none_found (is_unfit s kind) option_names (no_rule (find (is_unfit s kind) option_names) _ _ (no_first (find (has_bad_value s) option_names) _ _ (sym (rule_is s kind) ∙ free))) in
-    let unsigned : number_of s kind Signed 0 ≡ 0 =
-    ap (λ (o : Option Setting). unwrap_or (option_and_then (number_below (2 ^ 64)) (option_map (λ (t : Setting). t.value) o)) 0) (no_signed s.settings offers) in
+-- what is built is offered
+options_fit : (s : Split) (kind : Kind) → offers_kind sux_offer kind ≡ true → options_rule s kind ≡ None → IsOfferedBuild (build_task s kind)
+options_fit s kind kind_offered free =
+    let no_value = sym (rule_is s kind) ∙ free in
+    let good = none_found (has_bad_value s) option_names (no_rule (find (has_bad_value s) option_names) _ _ no_value) in
+    let no_kind = no_first (find (has_bad_value s) option_names) _ _ no_value in
+    let fit = none_found (is_unfit s kind) option_names (no_rule (find (is_unfit s kind) option_names) _ _ no_kind) in
+    let alone = no_pair (is_given s Signed && is_given s Values) SignedAndValues (no_first (find (is_unfit s kind) option_names) _ _ no_kind) in
     record {
-      kind = kind_offered;
-      signed = omega (arith, unsigned);
-      no_method = no_method (uses_method kind) (setting s MethodName) fit.1.0;
-      buckets = number_fits (uses_buckets kind) (setting s LogBucket) 0 12 5 12 (lit≤ tt) (lit≤ tt) good.1.1.0;
-      no_buckets = λ none. ap (λ (goes : Bool). if goes then unwrap_or (option_and_then (number_below (2 ^ 64)) (setting s LogBucket)) 5 else 0) none;
-      handles = ap (λ (goes : Bool). if goes then unwrap_or (option_and_then (number_below (2 ^ 64)) (setting s HandleBits)) 32 else 0) (no_handles kind kind_offered);
-      bits = number_fits true (setting s SigBits) 0 192 192 192 (lit≤ tt) (lit≤ tt) good.1.1.1.0;
+      plan = record {
+        kind = kind_offered;
+        signed = number_fits true (setting s Signed) 1 64 0 64 (lit≤ tt) (lit≤ tt) good.1.1.1.1.1.0;
+        no_method = no_method (uses_method kind) (setting s MethodName) fit.1.0;
+        buckets = number_fits (uses_buckets kind) (setting s LogBucket) 0 12 5 12 (lit≤ tt) (lit≤ tt) good.1.1.0;
+        no_buckets = λ none. ap (λ (goes : Bool). if goes then unwrap_or (option_and_then (number_below (2 ^ 64)) (setting s LogBucket)) 5 else 0) none;
+        handles = ap (λ (goes : Bool). if goes then unwrap_or (option_and_then (number_below (2 ^ 64)) (setting s HandleBits)) 32 else 0) (no_handles kind kind_offered);
+        bits = number_fits true (setting s SigBits) 0 192 192 192 (lit≤ tt) (lit≤ tt) good.1.1.1.0;
+      };
+      values = λ width. no_values (setting s Signed) (setting s Values) alone width;
     }
 
--- the words of a build ask for a plan that is offered
-pub plan_fits : (words : List Text) (b : BuildTask) → offered sux_offer words ≡ build b → IsOfferedPlan b.plan
-plan_fits [] b e = absurd cc
-plan_fits (word ∷ rest) b e = by_tests (not (list_any (bytes_eq word) sux_offer.commands)) (bytes_eq word (codes "build")) refl e
+-- the words of a build ask for what is offered
+pub build_fits : (words : List Text) (b : BuildTask) → offered sux_offer words ≡ build b → IsOfferedBuild b
+build_fits [] b e = absurd cc
+build_fits (word ∷ rest) b e = by_tests (not (list_any (bytes_eq word) sux_offer.commands)) (bytes_eq word (codes "build")) refl e
   where
     by_offer : (s : Split) → well_formed 2 (split_words rest) ≡ Some s → (x : Bool) → offers_options sux_offer s ≡ x → (y : Bool) → offers_kind_word sux_offer (positional s 0) ≡ y
-        → (if not x then usage BadWords else if not y then usage UnknownKind else command (word ∷ rest)) ≡ build b → IsOfferedPlan b.plan
+        → (if not x then usage BadWords else if not y then usage UnknownKind else command (word ∷ rest)) ≡ build b → IsOfferedBuild b
     by_offer s formed false a y c h = absurd cc
     by_offer s formed true a false c h = absurd cc
     by_offer s formed true a true c h =
         let built = (build_word word rest b h).1 in
         let same : built.split ≡ s = (let both : Some built.split ≡ Some s = sym built.formed ∙ formed in cc) in
-        let options : offers_options sux_offer built.split ≡ true = rw same a in
         let kind_offered : offers_kind sux_offer built.kind ≡ true = kind_fits (positional built.split 0) built.kind (rw same c) built.named in
-        subst (λ (t : BuildTask). IsOfferedPlan t.plan) (sym built.is) (options_fit built.split built.kind kind_offered options built.free)
+        subst (λ (t : BuildTask). IsOfferedBuild t) (sym built.is) (options_fit built.split built.kind kind_offered built.free)
 
-    by_split : (o : Option Split) → well_formed 2 (split_words rest) ≡ o → offered_build sux_offer o (command (word ∷ rest)) ≡ build b → IsOfferedPlan b.plan
+    by_split : (o : Option Split) → well_formed 2 (split_words rest) ≡ o → offered_build sux_offer o (command (word ∷ rest)) ≡ build b → IsOfferedBuild b
     by_split None formed h = absurd (let built = (build_word word rest b h).1 in let both : Some built.split ≡ None = sym built.formed ∙ formed in cc)
     by_split (Some s) formed h = by_offer s formed (offers_options sux_offer s) refl (offers_kind_word sux_offer (positional s 0)) refl h
 
     by_tests : (a v : Bool) → bytes_eq word (codes "build") ≡ v
-        → (if a then usage UnknownCommand else if v then offered_build sux_offer (well_formed 2 (split_words rest)) (command (word ∷ rest)) else command (word ∷ rest)) ≡ build b → IsOfferedPlan b.plan
+        → (if a then usage UnknownCommand else if v then offered_build sux_offer (well_formed 2 (split_words rest)) (command (word ∷ rest)) else command (word ∷ rest)) ≡ build b → IsOfferedBuild b
     by_tests true v is h = absurd cc
     by_tests false true is h = by_split (well_formed 2 (split_words rest)) refl h
     by_tests false false is h = absurd (

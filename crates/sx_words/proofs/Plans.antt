@@ -20,6 +20,10 @@ pub no_first : {X Y : Type 0} (o : Option X) (f : X → Y) (rest : Option Y) →
 no_first None f rest e = e
 no_first (Some x) f rest e = absurd cc
 
+pub no_pair : {Y : Type 0} (b : Bool) (y : Y) → (if b then Some y else None) ≡ None → b ≡ false
+no_pair true y e = absurd cc
+no_pair false y e = refl
+
 pub none_found : {X : Type 0} (p : X → Bool) (xs : List X) → find p xs ≡ None → AllByRecursion (λ x. p x ≡ false) xs
 none_found p [] e = tt
 none_found p (x ∷ xs) e =

@@ -33,6 +33,7 @@ fn rule(alloc: Global, line: &str) -> Result<Option<Rule>, AllocError> {
 fn refused_words(rt: HostRuntime) -> Result<(), Fail> {
     let alloc = rt.alloc();
     let bad_seeds = Some(Rule::BadValue(OptionName::Seeds));
+    let bad_width = Some(Rule::BadValue(OptionName::Signed));
     let cases = [
         ("", Some(Rule::NoCommand)),
         ("frob", Some(Rule::UnknownCommand)),
@@ -45,10 +46,11 @@ fn refused_words(rt: HostRuntime) -> Result<(), Fail> {
         ("build func D --seeds", Some(Rule::BadWords)),
         ("build func D --seeds=", Some(Rule::BadWords)),
         ("build func D --seeds --values", Some(Rule::BadWords)),
-        ("build tree D --signed 8", Some(Rule::BadWords)),
+        ("build func D --signed 8 --signed 8", Some(Rule::BadWords)),
         ("build lcp D --handle-bits 5", Some(Rule::BadWords)),
         ("build func D --frob 5", Some(Rule::BadWords)),
         ("build tree D", Some(Rule::UnknownKind)),
+        ("build tree D --signed 8", Some(Rule::UnknownKind)),
         ("build hollowdist D", Some(Rule::UnknownKind)),
         ("build hollowdist D --sig-bits 193", Some(Rule::UnknownKind)),
         (
@@ -91,6 +93,19 @@ fn refused_words(rt: HostRuntime) -> Result<(), Fail> {
         (
             "build func D --method gov4 --sig-bits 193",
             Some(Rule::BadValue(OptionName::Method)),
+        ),
+        ("build func D --signed 0", bad_width),
+        ("build hollow D --signed 65 --method mwhc", bad_width),
+        (
+            "build lcp D --signed 8 --values V",
+            Some(Rule::DoesNotGo {
+                name: OptionName::Values,
+                kind: Kind::Lcp,
+            }),
+        ),
+        (
+            "build func D --signed 8 --values V",
+            Some(Rule::SignedAndValues),
         ),
         ("build func D --seeds 1,,2", bad_seeds),
         ("build func D --seeds 1,", bad_seeds),
@@ -202,20 +217,22 @@ fn builds(rt: HostRuntime) -> Result<(), Fail> {
 }
 
 #[test]
-fn builds_in_blocks(rt: HostRuntime) -> Result<(), Fail> {
+fn builds_of_each_kind(rt: HostRuntime) -> Result<(), Fail> {
     let alloc = rt.alloc();
     let cases = [
-        ("build lcp D --log-bucket 3", Kind::Lcp, 3),
-        ("build lcp2 D --log-bucket=12", Kind::Lcp2, 12),
-        ("build lcp2 D", Kind::Lcp2, 5),
-        ("build hollow D", Kind::Hollow, 0),
+        ("build lcp D --log-bucket 3", Kind::Lcp, 3, 0),
+        ("build lcp2 D --log-bucket=12", Kind::Lcp2, 12, 0),
+        ("build lcp2 D --signed=1", Kind::Lcp2, 5, 1),
+        ("build hollow D", Kind::Hollow, 0, 0),
+        ("build hollow D --signed 64", Kind::Hollow, 0, 64),
     ];
-    for (line, kind, log_bucket) in cases {
+    for (line, kind, log_bucket, signed) in cases {
         match task(alloc, line)? {
             Task::Build(build) => {
                 assert_eq!(rt; build.plan.kind, kind, "{line}");
                 assert_eq!(rt; build.plan.log_bucket, log_bucket, "{line}");
                 assert_eq!(rt; build.plan.handle_bits, 0, "{line}");
+                assert_eq!(rt; build.plan.signed, signed, "{line}");
             }
             _ => assert!(rt; false, "{line}"),
         }

@@ -77,6 +77,67 @@ fn hollow_tries_have_their_ranks(rt: HostRuntime) -> Result<(), Fail> {
     answers(&rt, alloc, line, b"a\n", told, b"a\n\nb\n", b"0\n0\n0\n")
 }
 
+/// Of each kind a dump in which a number of each key is kept. A stranger has another.
+#[test]
+fn signed_keys_have_their_ranks(rt: HostRuntime) -> Result<(), Fail> {
+    let alloc = rt.alloc();
+    let line = "build hollow D --signed 64";
+    let told = b"keys 3 seed 0 words 22\n";
+    let lines = b"a\nb\nc\na\0\nz\n\n";
+    let ranks = b"0\n1\n2\n-1\n-1\n-1\n";
+    answers(&rt, alloc, line, b"a\nb\nc\n", told, lines, ranks)?;
+    let line = "build lcp D --signed 64";
+    let keys = "apple\nbanana\ncherry\nfig\nzebra\né\n".as_bytes();
+    let told = b"keys 6 seed 0 words 27\n";
+    let lines = "apple\nfig\né\ngrape\n".as_bytes();
+    answers(&rt, alloc, line, keys, told, lines, b"0\n3\n5\n-1\n")?;
+    let line = "build lcp2 D --log-bucket 1 --signed 33";
+    let told = b"keys 4 seed 0 words 37\n";
+    let keys = b"a\nb\nc\nd\n";
+    answers(
+        &rt,
+        alloc,
+        line,
+        keys,
+        told,
+        b"d\nb\na\nc\ne\n",
+        b"3\n1\n0\n2\n-1\n",
+    )?;
+    let line = "build func D --signed 16";
+    let told = b"keys 2 seed 0 words 18\n";
+    answers(
+        &rt,
+        alloc,
+        line,
+        b"a\nb\n",
+        told,
+        b"b\na\nz\n",
+        b"1\n0\n-1\n",
+    )
+}
+
+#[test]
+fn signed_dumps_of_no_keys(rt: HostRuntime) -> Result<(), Fail> {
+    let rows = [
+        ("build func D --signed 8", "keys 0 seed 0 words 16\n"),
+        ("build lcp D --signed 8", "keys 0 seed 0 words 20\n"),
+        ("build lcp2 D --signed 8", "keys 0 seed 0 words 30\n"),
+        ("build hollow D --signed 8", "keys 0 seed 0 words 18\n"),
+    ];
+    for (line, told) in rows {
+        answers(
+            &rt,
+            rt.alloc(),
+            line,
+            b"",
+            told.as_bytes(),
+            b"x\n\n",
+            b"-1\n-1\n",
+        )?;
+    }
+    Ok(())
+}
+
 #[test]
 fn parts_that_fail_are_named(rt: HostRuntime) -> Result<(), Fail> {
     let status = Status::SeedsFailed;

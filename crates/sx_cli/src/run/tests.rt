@@ -173,6 +173,14 @@ fn rules_of_usage_are_told(rt: HostRuntime) -> Result<(), Fail> {
             "build func D --seeds 1,,2",
             "sux: usage: bad value for --seeds\n",
         ),
+        (
+            "build hollow D --signed 65",
+            "sux: usage: bad value for --signed\n",
+        ),
+        (
+            "build func D --signed 8 --values V",
+            "sux: usage: --signed does not go with --values\n",
+        ),
     ];
     for (line, text) in rows {
         refuses(&rt, rt.alloc(), line, b"a\n", status, text.as_bytes())?;

@@ -19,7 +19,7 @@ returns c =
       bytes = keys.bytes;
       as_many = c.requires.values;
       seed_small = omega arith;
-      unsigned = c.requires.plan.unsigned;
+      plain = c.requires.ranks;
       header = func_header plan lines c.args.seed c.requires.plan few;
     } in
     all_assembled lines values c.args.seed plan sources (least_width values) (least_narrow values (λ i. omega (arith, c.type_inv.values i))) refl

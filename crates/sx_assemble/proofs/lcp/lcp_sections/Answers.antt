@@ -2,6 +2,7 @@ use Rattle.std.proofs.Common.{◌≡◌, ◌∙◌, ◌≤◌, ℕ, List, [], Ok
 use Rattle.std.proofs.lemmas.List.{length-map}
 use Rattle.std.proofs.lemmas.Result.{err_from_is_err_and}
 use Rattle.sx_spec_strings.specs.Bits.{key_bits}
+use Rattle.sx_spec_kinds.specs.declared.Kind.TheVariants.{Lcp}
 use Rattle.sx_spec_kinds.specs.Blocks.{block_size}
 use Rattle.sx_spec_kinds.specs.Lcp.{prefix_lens}
 use Rattle.sx_spec_kinds.specs.Pairs.{lengths_pairs}
@@ -9,12 +10,13 @@ use Rattle.sx_spec.specs.declared.Signature.{Signature}
 use Rattle.sx_spec.specs.Parts.{parts_of}
 use Rattle.sx_assemble.specs.Assembling.{key_signature}
 use Rattle.sx_assemble.specs.Ranking.{length_numbers}
-use Rattle.sx_assemble.specs.Sectioning.{AreSectionsOf}
+use Rattle.sx_assemble.specs.Sectioning.{AreKindSections}
 use Rattle.sx_assemble.proofs.BuiltDumps.{few_lines}
 use Rattle.sx_assemble.proofs.CodePairs.{lens_count}
 use Rattle.sx_assemble.proofs.KeyPairs.{least_of, lengths_are}
 use Rattle.sx_assemble.proofs.LcpDumps.{lcp_done, lcp_stops_first, lcp_stops_second}
 use Rattle.sx_assemble.proofs.PartLists.{stops_out}
+use Rattle.sx_assemble.proofs.SignedEnds.{all_sections, few_signatures}
 use Rattle.sx_assemble.proofs.lcp.lcp_sections.Goals as goal
 
 pub lengths_function-requires-clause-numbers : goal.lengths_function-requires-clause-numbers
@@ -62,6 +64,11 @@ returns-in_err-prefixes c =
     (err_from_is_err_and c.from_residual-in_err-prefixes.result c.from_residual-in_err-prefixes.ensures.1)
     (lcp_stops_second plan lines c.args.seed c.requires f e (least_of plan c.args.seed 0 (lengths_pairs b (map key_bits lines)) c.deref.result.now numbers are (Ok f) c.in_ok-lengths-2.ensures.built) c.in_err-prefixes.ensures.built)
 
+pub with_signatures-requires-clause-few : goal.with_signatures-requires-clause-few
+with_signatures-requires-clause-few c =
+    let few = few_signatures c.args.keys.now c.sign_keys.ensures.keys c.args.seed c.args.plan.now.sig_bits c.deref-3.result.now (c.deref-3.ensures.value ∙ c.in_ok-sigs.ensures.signed) in
+    omega arith
+
 pub returns : goal.returns
 returns c =
     let lines = c.args.keys.now.lines in
@@ -75,6 +82,9 @@ returns c =
     let f = c.in_ok-lengths-2.lengths in
     let done = least_of plan c.args.seed 0 (lengths_pairs b (map key_bits lines)) c.deref.result.now numbers are (Ok f) c.in_ok-lengths-2.ensures.built in
     let narrow = subst (λ (w : ℕ). w ≤ 64) done.built.width c.in_ok-lengths-2.ensures.narrow in
-    subst (AreSectionsOf plan lines c.args.seed (parts_of plan 0 lines [])) (sym c.in_ok-vec.ensures.items)
+    let parts = parts_of plan 0 lines [] in
+    let own = subst (AreKindSections Lcp plan lines c.args.seed parts) (sym c.in_ok-sections.ensures.items)
     (lcp_done plan lines c.args.seed c.requires f c.in_ok-prefixes.prefixes few
-    done narrow c.in_ok-prefixes.ensures.built c.in_ok-prefixes.ensures.narrow)
+    done narrow c.in_ok-prefixes.ensures.built c.in_ok-prefixes.ensures.narrow) in
+    all_sections Lcp plan lines c.args.seed parts c.requires.kind c.in_ok-sections.sections.items c.in_ok-with_signatures.field-0.items own
+    few c.requires.signed c.deref-3.result.now (c.deref-3.ensures.value ∙ c.in_ok-sigs.ensures.signed) c.in_ok-with_signatures.ensures

@@ -2,6 +2,7 @@ use Rattle.std.proofs.Common.{◌≡◌, ◌∙◌, ◌^◌, ◌<◌, ◌≤◌,
 use Rattle.std.proofs.lemmas.List.{length-map}
 use Rattle.std.proofs.lemmas.Result.{err_from_is_err_and}
 use Rattle.sx_spec_strings.specs.Bits.{key_bits}
+use Rattle.sx_spec_kinds.specs.declared.Kind.TheVariants.{Lcp2}
 use Rattle.sx_spec_kinds.specs.Blocks.{block_size}
 use Rattle.sx_spec_kinds.specs.Pairs.{offsets_pairs}
 use Rattle.sx_spec_kinds.specs.TwoStep.{two_step_of, width_of}
@@ -10,12 +11,13 @@ use Rattle.sx_spec.specs.Parts.{parts_of}
 use Rattle.sx_lcp.specs.TwoSteps.{two_step_as}
 use Rattle.sx_assemble.specs.Assembling.{key_signature}
 use Rattle.sx_assemble.specs.Ranking.{offset_numbers}
-use Rattle.sx_assemble.specs.Sectioning.{AreSectionsOf}
+use Rattle.sx_assemble.specs.Sectioning.{AreKindSections}
 use Rattle.sx_assemble.proofs.BuiltDumps.{few_lines}
 use Rattle.sx_assemble.proofs.CodePairs.{built_codes_count, built_codes_fit, built_escaped_count, built_escaped_within, built_table_count, built_table_fits, lens_count}
 use Rattle.sx_assemble.proofs.KeyPairs.{least_of, offsets_are}
 use Rattle.sx_assemble.proofs.Lcp2Dumps.{bits_narrow, codes_of_keys, codes_part_narrow, escaped_of_keys, given_codes, given_escaped, lcp2_done, lcp2_stops_first, lcp2_stops_second, lcp2_stops_third, lcp2_stops_fourth, lens_many, sigs_count, table_is, width_narrow}
 use Rattle.sx_assemble.proofs.PartLists.{stops_out}
+use Rattle.sx_assemble.proofs.SignedEnds.{all_sections, few_signatures}
 use Rattle.sx_assemble.proofs.lcp2.lcp2_sections.Goals as goal
 
 pub two_step-requires : goal.two_step-requires
@@ -306,6 +308,11 @@ table_list-requires-clause-fit c =
     let moved = subst (λ (l : List ℕ). All (λ v. v < 2 ^ width_of lens) l) (sym c.deref-9.ensures.value) fits in
     subst (λ (l : List ℕ). All (λ v. v < 2 ^ width_of l) c.deref-9.result.now) (sym c.deref-8.ensures.value) moved
 
+pub with_signatures-requires-clause-few : goal.with_signatures-requires-clause-few
+with_signatures-requires-clause-few c =
+    let few = few_signatures c.args.keys.now c.sign_keys.ensures.keys c.args.seed c.args.plan.now.sig_bits c.deref-10.result.now (c.deref-10.ensures.value ∙ c.in_ok-sigs.ensures.signed) in
+    omega arith
+
 pub returns : goal.returns
 returns c =
     let list = c.args.keys.now in
@@ -338,6 +345,9 @@ returns c =
     let count = built_table_count lens t two in
     let all = lens_many plan list seed sigs lens t signed lengths two in
     let size = ap (λ (l : List ℕ). length l) listed in
-    subst (AreSectionsOf plan lines seed (parts_of plan 0 lines [])) (sym c.in_ok-vec.ensures.items)
+    let parts = parts_of plan 0 lines [] in
+    let own = subst (AreKindSections Lcp2 plan lines seed parts) (sym c.in_ok-sections.ensures.items)
     (lcp2_done plan lines seed c.requires offsets offsets_done codes codes_done escaped escaped_done c.in_ok-prefixes.prefixes table c.in_ok-prefixes.ensures.built few narrow_offsets
-    (codes_part_narrow plan list seed sigs lens t signed lengths two keys c.requires.buckets) c.in_ok-escaped.ensures.narrow c.in_ok-prefixes.ensures.narrow (wide ∙ ap width_of lengths) (listed ∙ table_is plan list seed sigs lens t signed lengths two) (omega arith) (omega arith))
+    (codes_part_narrow plan list seed sigs lens t signed lengths two keys c.requires.buckets) c.in_ok-escaped.ensures.narrow c.in_ok-prefixes.ensures.narrow (wide ∙ ap width_of lengths) (listed ∙ table_is plan list seed sigs lens t signed lengths two) (omega arith) (omega arith)) in
+    all_sections Lcp2 plan lines seed parts c.requires.kind c.in_ok-sections.sections.items c.in_ok-with_signatures.field-0.items own
+    few c.requires.signed c.deref-10.result.now (c.deref-10.ensures.value ∙ signed) c.in_ok-with_signatures.ensures

@@ -5,7 +5,7 @@ use Rattle.sx_text.specs.Reasons.{fault_of}
 use Rattle.sx_cli.proofs.Builds.{keys_failed, build_memory}
 use Rattle.sx_cli.proofs.Counts.{untouched, answered, faulted, chained}
 use Rattle.sx_cli.proofs.Endings.{same_files}
-use Rattle.sx_cli.proofs.GivenBuilds.{refuses_key, refuses_values, fails_values, given_ends, many}
+use Rattle.sx_cli.proofs.GivenBuilds.{refuses_key, refuses_values, fails_values, given_ends, many, numbers}
 use Rattle.sx_cli.proofs.build.build.Goals as goal
 
 pub returns-in-Err-Refused-clause-promise : goal.returns-in-Err-Refused-clause-promise
@@ -48,6 +48,11 @@ pub build_given-requires-clause-values : goal.build_given-requires-clause-values
 build_given-requires-clause-values g c =
     let given = c.in-Ok-values_for.ensures.values in
     rw (← c.len.ensures.value, c.deref.ensures.value) (many c.args.task.now.values c.len.result _ c.in-Ok-values_for.values.items given)
+
+pub build_given-requires-clause-ranks : goal.build_given-requires-clause-ranks
+build_given-requires-clause-ranks g c = λ width.
+    let given = c.in-Ok-values_for.ensures.values in
+    rw (← c.len.ensures.value, c.deref.ensures.value) (numbers (build_of c.args.task.now) c.len.result _ c.in-Ok-values_for.values.items c.requires.offered given width)
 
 pub returns-clause-promise : goal.returns-clause-promise
 returns-clause-promise g c = λ ticks.

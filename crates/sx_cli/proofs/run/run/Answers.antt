@@ -6,7 +6,7 @@ use Rattle.sx_spec.specs.Run.{Promise}
 use Rattle.sx_spec.specs.World.{World}
 use Rattle.sx_spec_program.specs.Program.{sux_program}
 use Rattle.sx_words.specs.Tasks.{task_of}
-use Rattle.sx_words.proofs.Offered.{plan_fits}
+use Rattle.sx_words.proofs.Offered.{build_fits}
 use Rattle.sx_cli.proofs.Counts.{untouched}
 use Rattle.sx_cli.proofs.Endings.{same_files}
 use Rattle.sx_cli.proofs.Refusals.{words_refused, words_memory}
@@ -20,18 +20,8 @@ pub returns-in-Build-clause-promise : goal.returns-in-Build-clause-promise
 returns-in-Build-clause-promise g c =
     as_task _ _ (c.build.new.steps - c.args.steps.now) c.build.result _ _ (ap task_of (sym c.in-Build.is) ∙ c.in-Ok.ensures) (c.build.ensures.promise (c.build.new.steps - c.args.steps.now))
 
-pub build-requires-clause-plan : goal.build-requires-clause-plan
-build-requires-clause-plan g c =
-    let fits = plan_fits c.args.words.now _ (sym c.in-Ok.ensures ∙ ap task_of c.in-Build.is) in
-    record {
-      kind = fits.kind;
-      signed = fits.signed;
-      buckets = fits.buckets;
-      no_method = fits.no_method;
-      no_buckets = fits.no_buckets;
-      handles = fits.handles;
-      bits = fits.bits;
-    }
+pub build-requires-clause-offered : goal.build-requires-clause-offered
+build-requires-clause-offered g c = build_fits c.args.words.now _ (sym c.in-Ok.ensures ∙ ap task_of c.in-Build.is)
 
 pub returns-in-Query-clause-promise : goal.returns-in-Query-clause-promise
 returns-in-Query-clause-promise g c =

@@ -1,7 +1,7 @@
 use Rattle.std.proofs.Common.{◌≡◌, ◌+◌, sym, ap, ◌∙◌, arith, ℕ, List, ◌++◌, ◌∷◌, []}
 use Rattle.std.specs.List.{range_with_len}
 use Rattle.sx_assemble.proofs.KeyPairs.{range_more}
-use Rattle.sx_assemble.proofs.hollow.members_to.Goals as goal
+use Rattle.sx_assemble.proofs.numbers.members_to.Goals as goal
 
 pub loop-i-preserved : goal.loop-i-preserved
 loop-i-preserved c =
