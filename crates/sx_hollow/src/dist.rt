@@ -6,7 +6,7 @@ ghost use Rattle.std.specs.List.{slice_index};
 ghost use Rattle.sx_spec.specs.Reply.{gaps};
 ghost use Rattle.sx_spec_strings.specs.Bits.{tagged};
 ghost use Rattle.sx_spec_kinds.specs.Hollow.{descend, end_of, goes};
-ghost use Rattle.sx_spec_kinds.specs.HollowDistributor.{ask, hollow_block};
+ghost use Rattle.sx_spec_kinds.specs.HollowDistributor.{ask, hollow_block, turn_at_inner, turn_at_leaf};
 ghost use Rattle.sx_bits.specs.Views.{bits_of};
 ghost use Rattle.sx_hollow.specs.Dist.{IfGoes, reserve, turns_by, walk_as};
 ghost use Rattle.sx_hollow.specs.Tops.{AreKept};
@@ -184,12 +184,7 @@ impl<B: WordBank + Copy> HollowDistView<B> {
         }
         let end = at.pos + entry.skip.min(u64::from(rest)) as u32;
         let turn = self.turn(at.node as u32, &view.range(at.pos, end), signing, steps);
-        match turn {
-            FOLLOW => go_on(at, &entry, view),
-            TURN_LEFT => Walk::Ends(at.first),
-            TURN_RIGHT => Walk::Ends(at.first + at.leaves),
-            _ => Walk::Lost,
-        }
+        turned(at, &entry, turn, view)
     }
 
     /// The end of a walk at a leaf.
@@ -213,11 +208,7 @@ impl<B: WordBank + Copy> HollowDistView<B> {
         // of a tag only the lowest 32 bits are signed
         let tag = ((self.delimiters - 1 + at.first) % HALF) as u32;
         let turn = self.turn(tag, &view.range(at.pos, view.len()), signing, steps);
-        match turn {
-            TURN_LEFT => Some(at.first),
-            TURN_RIGHT => Some(at.first + 1),
-            _ => None,
-        }
+        turned_at_leaf(at, turn)
     }
 
     /// What the function answers a fragment with its tag. At most eight words are read.
@@ -337,5 +328,47 @@ fn go_on(at: &Stand, entry: &Entry, view: &BitView<'_>) -> Walk
             };
             Walk::Goes(Stand { place, ..next })
         }
+    }
+}
+
+/// On from an inner node by the string's turn there.
+#[inline(always)]
+fn turned(at: &Stand, entry: &Entry, turn: u64, view: &BitView<'_>) -> Walk
+    requires node { at.now.node + at.now.leaves < 2 ^ 32 }
+    requires first { at.now.first + at.now.leaves < 2 ^ 32 }
+    requires short { at.now.pos ≤ length (bits_of view.now) }
+    requires some { 0 < entry.now.left }
+    requires fewer { entry.now.left < at.now.leaves }
+    ensures value { walk_as result ≡ turn_at_inner entry.now.left entry.now.skip
+        (bits_of view.now) (stand_of at.now) turn }
+    ensures some { IfGoes result (λ s. 0 < s.leaves) }
+    ensures fewer { IfGoes result (λ s. s.leaves < at.now.leaves) }
+    ensures node { IfGoes result
+        (λ s. s.node + s.leaves ≤ at.now.node + at.now.leaves) }
+    ensures first { IfGoes result
+        (λ s. s.first + s.leaves ≤ at.now.first + at.now.leaves) }
+    ensures farther { IfGoes result (λ s. at.now.pos < s.pos) }
+    ensures short { IfGoes result (λ s. s.pos ≤ length (bits_of view.now)) }
+    ensures place { IfGoes result (λ s. reserve s.place
+        ≤ max (reserve entry.now.zero) (reserve entry.now.one)) }
+{
+    match turn {
+        FOLLOW => go_on(at, entry, view),
+        TURN_LEFT => Walk::Ends(at.first),
+        TURN_RIGHT => Walk::Ends(at.first + at.leaves),
+        _ => Walk::Lost,
+    }
+}
+
+/// The block of a string at a leaf by its turn there.
+#[inline(always)]
+fn turned_at_leaf(at: &Stand, turn: u64) -> Option<u64>
+    requires { at.now.first < 2 ^ 32 }
+    ensures { result ≡ end_of (turn_at_leaf (stand_of at.now) turn) }
+{
+    match turn {
+        TURN_LEFT => Some(at.first),
+        TURN_RIGHT => Some(at.first + 1),
+        _ => None,
     }
 }

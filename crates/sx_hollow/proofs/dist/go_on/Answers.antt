@@ -1,0 +1,23 @@
+use Rattle.std.proofs.Common.{◌+◌, arith, inl, inr}
+use Rattle.sx_bits.specs.Views.{bits_of}
+use Rattle.sx_hollow.specs.Walks.{stand_of}
+use Rattle.sx_hollow.proofs.Asking.{goes_some}
+use Rattle.sx_hollow.proofs.Descents.{lost_at}
+use Rattle.sx_hollow.proofs.dist.go_on.Goals as goal
+
+pub returns-then-len-at-clause-value : goal.returns-then-len-at-clause-value
+returns-then-len-at-clause-value c =
+    let e = c.args.entry.now in
+    let len = c.len.ensures.value in
+    let short = c.if-len-at.true in
+    lost_at e.left e.skip (bits_of c.args.view.now) (stand_of c.args.at.now) (inr (inr (omega arith)))
+
+pub returns-then-next-at-clause-some : goal.returns-then-next-at-clause-some
+returns-then-next-at-clause-some c =
+    let e = c.args.entry.now in
+    goes_some e.left e.skip (bits_of c.args.view.now) (stand_of c.args.at.now) (stand_of c.in-Some.next) c.requires.some c.requires.fewer c.in-Some.ensures.value
+
+pub returns-else-next-at-clause-some : goal.returns-else-next-at-clause-some
+returns-else-next-at-clause-some c =
+    let e = c.args.entry.now in
+    goes_some e.left e.skip (bits_of c.args.view.now) (stand_of c.args.at.now) (stand_of c.in-Some.next) c.requires.some c.requires.fewer c.in-Some.ensures.value
