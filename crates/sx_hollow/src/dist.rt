@@ -1,14 +1,14 @@
-//! The walk of a string by the lists of a hollow trie of delimiters, and by a function that says at
-//! each node whether the string turns off to a side of all delimiters below it.
+//! The walk of a string by the lists of a hollow trie of delimiters, and by a function that knows at
+//! each node on which side of all delimiters below it a string lies that doesn't go on there.
 
-ghost use Rattle.std.specs.Prelude.{◌≡◌, ◌+◌, ◌-◌, ◌*◌, ◌<◌, ◌≤◌, ◌^◌, IfNone, IfOk, IfSome, Some, length, max};
+ghost use Rattle.std.specs.Prelude.{◌≡◌, ◌+◌, ◌*◌, ◌<◌, ◌≤◌, ◌^◌, IfNone, IfOk, IfSome, Some, length, max};
 ghost use Rattle.std.specs.List.{slice_index};
-ghost use Rattle.sx_spec.specs.Reply.{gaps};
 ghost use Rattle.sx_spec_strings.specs.Bits.{tagged};
-ghost use Rattle.sx_spec_kinds.specs.Hollow.{descend, end_of, goes};
-ghost use Rattle.sx_spec_kinds.specs.HollowDistributor.{ask, hollow_block, turn_at_inner, turn_at_leaf};
+ghost use Rattle.sx_spec.specs.Reply.{gaps};
+ghost use Rattle.sx_spec_kinds.specs.Hollow.{end_of, goes};
+ghost use Rattle.sx_spec_kinds.specs.HollowDistributor.{ask, hollow_block};
 ghost use Rattle.sx_bits.specs.Views.{bits_of};
-ghost use Rattle.sx_hollow.specs.Dist.{IfGoes, reserve, turns_by, walk_as};
+ghost use Rattle.sx_hollow.specs.Dist.{IfGoes, IsLater, reserve, turns_by, walk_as};
 ghost use Rattle.sx_hollow.specs.Tops.{AreKept};
 ghost use Rattle.sx_hollow.specs.Views.{sums_read};
 ghost use Rattle.sx_hollow.specs.Walks.{stand_of};
@@ -16,6 +16,7 @@ ghost use Rattle.sx_hollow.specs.Walks.{stand_of};
 use crate::gap::gap;
 use crate::keeping::top_of;
 use crate::top::{Entry, HALF, NOT_KEPT, SIZE};
+use crate::turning::{Walk, turned, turned_at_leaf};
 use crate::walk::Stand;
 use std::alloc::{AllocError, Global};
 use std::sync::ledger::Ledger;
@@ -26,27 +27,7 @@ use sx_sig::sign;
 use sx_static::FuncView;
 use sx_steps::Steps;
 
-/// The string has the fragment of the delimiters below the node.
-const FOLLOW: u64 = 0;
-
-/// The string is below all delimiters below the node.
-const TURN_LEFT: u64 = 1;
-
-/// The string is above all delimiters below the node.
-const TURN_RIGHT: u64 = 2;
-
-/// Where a walk is after a step.
-#[derive(Clone, Copy)]
-pub(crate) enum Walk {
-    /// At a node or a leaf.
-    Goes(Stand),
-    /// At its end, with a block.
-    Ends(u64),
-    /// At its end, with none.
-    Lost,
-}
-
-/// What is signed of a string besides its bits.
+/// How strings are signed.
 #[derive(Clone, Copy)]
 struct Signing {
     seed: u64,
@@ -54,14 +35,14 @@ struct Signing {
     ghost few: { sig_bits ≤ 192 },
 }
 
-/// A distributor by a hollow trie that answers from a bank of words.
+/// A distributor by a hollow trie of its delimiters that answers from a bank of words.
 #[derive(Drop)]
 pub struct HollowDistView<B: WordBank + Copy> {
     /// The sums of the numbers of leaves under the left children.
     pub left: EliasFano<B>,
     /// The sums of the numbers of bits that are skipped.
     pub skip: EliasFano<B>,
-    /// Gives a tagged fragment its turn.
+    /// Gives a fragment of a string, with the tag of its node, the string's turn there.
     pub turns: FuncView<B>,
     /// How many delimiters there are.
     pub delimiters: u64,
@@ -74,9 +55,8 @@ pub struct HollowDistView<B: WordBank + Copy> {
 }
 
 impl<B: WordBank + Copy> HollowDistView<B> {
-    /// The distributor by the hollow trie of fewer than 2 to the power 32 delimiters, by the sums of
-    /// its two lists, as many as delimiters, or one, and by the function of its turns. No other call
-    /// takes memory.
+    /// The distributor by fewer than 2 to the power 32 delimiters, by the sums of its two lists, as
+    /// many as delimiters, or one, and the function of its turns. No other call takes memory.
     ///
     /// # Errors
     /// Only for want of memory.
@@ -106,9 +86,8 @@ impl<B: WordBank + Copy> HollowDistView<B> {
     }
 
     /// The block of a string of at least eight bits under a seed, with so many bits of a signature,
-    /// at most 192: for a key the number of delimiters below it, and for any other string any number
-    /// up to that of delimiters, or none. At most 170 words are read for each bit of the string, and
-    /// eight.
+    /// at most 192: of a key the number of delimiters below it, and of any other string a number up
+    /// to that of delimiters or none. At most 170 words for each bit of the string and 8 are read.
     pub fn block<L: Ledger>(
         &self,
         view: &BitView<'_>,
@@ -142,10 +121,11 @@ impl<B: WordBank + Copy> HollowDistView<B> {
                 Walk::Lost => return None,
             };
         }
-        self.ask_leaf(&at, view, signing, steps)
+        self.ask_at_leaf(&at, view, signing, steps)
     }
 
-    /// The step of a walk from an inner node.
+    /// The step of a walk from an inner node. At most 160 words are read, and at most 84 where no bit
+    /// of the string is left, and one more where the node isn't kept as told.
     #[inline(always)]
     fn ask<L: Ledger>(
         &self,
@@ -157,17 +137,12 @@ impl<B: WordBank + Copy> HollowDistView<B> {
         requires more { 1 < at.now.leaves }
         requires node { at.now.node + at.now.leaves ≤ self.now.delimiters }
         requires first { at.now.first + at.now.leaves ≤ self.now.delimiters }
-        requires short { at.now.pos ≤ length (bits_of view.now) }
+        requires within { at.now.pos ≤ length (bits_of view.now) }
         ensures value { walk_as result ≡ ask (gaps (sums_read self.now.left))
             (gaps (sums_read self.now.skip))
             (turns_by self.now.turns signing.seed signing.sig_bits) self.now.delimiters
             (bits_of view.now) (goes (stand_of at.now)) }
-        ensures some { IfGoes result (λ s. 0 < s.leaves) }
-        ensures fewer { IfGoes result (λ s. s.leaves < at.now.leaves) }
-        ensures node { IfGoes result (λ s. s.node + s.leaves ≤ self.now.delimiters) }
-        ensures first { IfGoes result (λ s. s.first + s.leaves ≤ self.now.delimiters) }
-        ensures farther { IfGoes result (λ s. at.now.pos < s.pos) }
-        ensures short { IfGoes result (λ s. s.pos ≤ length (bits_of view.now)) }
+        ensures later { IfGoes result (IsLater (length (bits_of view.now)) at.now) }
         ensures counted { steps.old ≤ steps.new }
         ensures cost { at.now.pos < length (bits_of view.now)
             → steps.new ≤ steps.old + (160 + reserve at.now.place) }
@@ -187,8 +162,8 @@ impl<B: WordBank + Copy> HollowDistView<B> {
         turned(at, &entry, turn, view)
     }
 
-    /// The end of a walk at a leaf.
-    fn ask_leaf<L: Ledger>(
+    /// The end of a walk at a leaf. At most eight words are read.
+    fn ask_at_leaf<L: Ledger>(
         &self,
         at: &Stand,
         view: &BitView<'_>,
@@ -197,7 +172,7 @@ impl<B: WordBank + Copy> HollowDistView<B> {
     ) -> Option<u64>
         requires one { at.now.leaves ≡ 1 }
         requires first { at.now.first < self.now.delimiters }
-        requires short { at.now.pos ≤ length (bits_of view.now) }
+        requires within { at.now.pos ≤ length (bits_of view.now) }
         ensures value { result ≡ end_of (ask (gaps (sums_read self.now.left))
             (gaps (sums_read self.now.skip))
             (turns_by self.now.turns signing.seed signing.sig_bits) self.now.delimiters
@@ -205,7 +180,7 @@ impl<B: WordBank + Copy> HollowDistView<B> {
         ensures counted { steps.old ≤ steps.new }
         ensures cost { steps.new ≤ steps.old + 8 }
     {
-        // of a tag only the lowest 32 bits are signed
+        // of a tag the lowest 32 bits are signed
         let tag = ((self.delimiters - 1 + at.first) % HALF) as u32;
         let turn = self.turn(tag, &view.range(at.pos, view.len()), signing, steps);
         turned_at_leaf(at, turn)
@@ -229,8 +204,8 @@ impl<B: WordBank + Copy> HollowDistView<B> {
         self.turns.answer(&sig, steps)
     }
 
-    /// The numbers of the inner node at which a walk stands, with `rest` bits to go. Where these are
-    /// none, its skip tells nothing, and may be any.
+    /// The numbers of the inner node at which a walk stands, with `rest` bits to go. Where there are
+    /// none, no skip tells anything, so it isn't read.
     #[inline(always)]
     fn entry<L: Ledger>(&self, at: &Stand, rest: u32, steps: &mut Steps<L>) -> Entry
         requires more { 1 < at.now.leaves }
@@ -265,7 +240,7 @@ impl<B: WordBank + Copy> HollowDistView<B> {
     }
 
     /// What is kept of the inner node at which a walk stands, if it is kept. At most 4 words are read,
-    /// and one where it isn't.
+    /// and where it isn't, at most one.
     #[inline(always)]
     fn kept<L: Ledger>(&self, at: &Stand, steps: &mut Steps<L>) -> Option<Entry>
         ensures left { IfSome result (λ e. e.left
@@ -291,84 +266,5 @@ impl<B: WordBank + Copy> HollowDistView<B> {
             zero: (places % HALF) as u32,
             one: (places / HALF) as u32,
         })
-    }
-}
-
-/// On from an inner node by the string's next bit that isn't skipped.
-#[inline(always)]
-fn go_on(at: &Stand, entry: &Entry, view: &BitView<'_>) -> Walk
-    requires node { at.now.node + at.now.leaves < 2 ^ 32 }
-    requires first { at.now.first + at.now.leaves < 2 ^ 32 }
-    requires short { at.now.pos ≤ length (bits_of view.now) }
-    requires some { 0 < entry.now.left }
-    requires fewer { entry.now.left < at.now.leaves }
-    ensures value { walk_as result ≡ descend entry.now.left entry.now.skip (bits_of view.now)
-        (stand_of at.now) }
-    ensures some { IfGoes result (λ s. 0 < s.leaves) }
-    ensures fewer { IfGoes result (λ s. s.leaves < at.now.leaves) }
-    ensures node { IfGoes result
-        (λ s. s.node + s.leaves ≤ at.now.node + at.now.leaves) }
-    ensures first { IfGoes result
-        (λ s. s.first + s.leaves ≤ at.now.first + at.now.leaves) }
-    ensures farther { IfGoes result (λ s. at.now.pos < s.pos) }
-    ensures short { IfGoes result (λ s. s.pos ≤ length (bits_of view.now)) }
-    ensures place { IfGoes result (λ s. reserve s.place
-        ≤ max (reserve entry.now.zero) (reserve entry.now.one)) }
-{
-    if view.len() <= at.pos {
-        return Walk::Lost;
-    }
-    match at.descend(entry.left, entry.skip, view) {
-        None => Walk::Lost,
-        Some(next) => {
-            let place = if next.first == at.first {
-                entry.zero
-            } else {
-                entry.one
-            };
-            Walk::Goes(Stand { place, ..next })
-        }
-    }
-}
-
-/// On from an inner node by the string's turn there.
-#[inline(always)]
-fn turned(at: &Stand, entry: &Entry, turn: u64, view: &BitView<'_>) -> Walk
-    requires node { at.now.node + at.now.leaves < 2 ^ 32 }
-    requires first { at.now.first + at.now.leaves < 2 ^ 32 }
-    requires short { at.now.pos ≤ length (bits_of view.now) }
-    requires some { 0 < entry.now.left }
-    requires fewer { entry.now.left < at.now.leaves }
-    ensures value { walk_as result ≡ turn_at_inner entry.now.left entry.now.skip
-        (bits_of view.now) (stand_of at.now) turn }
-    ensures some { IfGoes result (λ s. 0 < s.leaves) }
-    ensures fewer { IfGoes result (λ s. s.leaves < at.now.leaves) }
-    ensures node { IfGoes result
-        (λ s. s.node + s.leaves ≤ at.now.node + at.now.leaves) }
-    ensures first { IfGoes result
-        (λ s. s.first + s.leaves ≤ at.now.first + at.now.leaves) }
-    ensures farther { IfGoes result (λ s. at.now.pos < s.pos) }
-    ensures short { IfGoes result (λ s. s.pos ≤ length (bits_of view.now)) }
-    ensures place { IfGoes result (λ s. reserve s.place
-        ≤ max (reserve entry.now.zero) (reserve entry.now.one)) }
-{
-    match turn {
-        FOLLOW => go_on(at, entry, view),
-        TURN_LEFT => Walk::Ends(at.first),
-        TURN_RIGHT => Walk::Ends(at.first + at.leaves),
-        _ => Walk::Lost,
-    }
-}
-
-/// The block of a string at a leaf by its turn there.
-#[inline(always)]
-fn turned_at_leaf(at: &Stand, turn: u64) -> Option<u64>
-    requires { at.now.first < 2 ^ 32 }
-    ensures { result ≡ end_of (turn_at_leaf (stand_of at.now) turn) }
-{
-    match turn {
-        TURN_LEFT => Some(at.first),
-        TURN_RIGHT => Some(at.first + 1),
-        _ => None,
     }
 }

@@ -7,6 +7,7 @@ mod gap;
 mod keeping;
 mod lists;
 mod top;
+mod turning;
 mod view;
 mod walk;
 

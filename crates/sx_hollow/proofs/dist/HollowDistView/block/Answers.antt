@@ -21,7 +21,7 @@ loop-at-init g c =
       some = omega arith;
       node = omega arith;
       first = omega arith;
-      short = omega arith;
+      within = omega arith;
       counted = omega arith;
       cost = omega arith;
       rest = rest_starts (gaps (sums_read v.left)) (gaps (sums_read v.skip)) (turns_by v.turns c.args.seed c.args.sig_bits) v.delimiters (bits_of c.args.view.now) (omega arith);
@@ -41,19 +41,24 @@ pub loop-at-preserved : goal.loop-at-preserved
 loop-at-preserved g c =
     let v = c.args.self.now in
     let next = c.in-Goes.next in
+    let later = c.in-Goes.ensures.later in
     let so_far = c.loop-at.invariant.counted in
     let spent = c.loop-at.invariant.cost in
     let counted = c.in-Goes.ensures.counted in
-    let farther = c.in-Goes.ensures.farther in
+    let farther = later.farther in
     let reserve = c.in-Goes.ensures.reserve in
+    let node_before = c.loop-at.invariant.node in
+    let node = later.node in
+    let first_before = c.loop-at.invariant.first in
+    let first = later.first in
     record {
-      some = c.in-Goes.ensures.some;
-      node = c.in-Goes.ensures.node;
-      first = c.in-Goes.ensures.first;
-      short = c.in-Goes.ensures.short;
+      some = later.some;
+      node = omega arith;
+      first = omega arith;
+      within = later.within;
       counted = omega arith;
       cost = omega arith;
-      rest = rest_steps (gaps (sums_read v.left)) (gaps (sums_read v.skip)) (turns_by v.turns c.args.seed c.args.sig_bits) v.delimiters (bits_of c.args.view.now) (goes (stand_of c.loop-at.at)) (goes (stand_of next)) c.loop-at.at.leaves next.leaves c.loop-at.invariant.rest c.in-Goes.ensures.fewer c.in-Goes.ensures.value;
+      rest = rest_steps (gaps (sums_read v.left)) (gaps (sums_read v.skip)) (turns_by v.turns c.args.seed c.args.sig_bits) v.delimiters (bits_of c.args.view.now) (goes (stand_of c.loop-at.at)) (goes (stand_of next)) c.loop-at.at.leaves next.leaves c.loop-at.invariant.rest later.fewer c.in-Goes.ensures.value;
     }
 
 pub returns-clause-value : goal.returns-clause-value
@@ -61,5 +66,5 @@ returns-clause-value g c =
     let v = c.args.self.now in
     let some = c.loop-at.invariant.some in
     let few = c.loop-at-test.false in
-    c.ask_leaf.ensures.value
+    c.ask_at_leaf.ensures.value
     ∙ rest_leaf (gaps (sums_read v.left)) (gaps (sums_read v.skip)) (turns_by v.turns c.args.seed c.args.sig_bits) v.delimiters (bits_of c.args.view.now) (stand_of c.loop-at.at) c.loop-at.at.leaves c.loop-at.invariant.rest (omega arith)

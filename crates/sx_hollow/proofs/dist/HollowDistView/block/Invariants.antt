@@ -13,7 +13,7 @@ invariant-loop-at g l = record {
   some : 0 < l.at.leaves;
   node : l.at.node + l.at.leaves ≤ l.self.delimiters;
   first : l.at.first + l.at.leaves ≤ l.self.delimiters;
-  short : l.at.pos ≤ length (bits_of l.view);
+  within : l.at.pos ≤ length (bits_of l.view);
   counted : l.initial.steps ≤ l.steps;
   cost : l.steps + reserve l.at.place ≤ l.initial.steps + 160 * l.at.pos + 1;
   rest : RestOf (gaps (sums_read l.self.left)) (gaps (sums_read l.self.skip)) (turns_by l.self.turns l.seed l.sig_bits) l.self.delimiters (bits_of l.view) (goes (stand_of l.at)) l.at.leaves;

@@ -6,7 +6,7 @@ use Rattle.sx_hollow.specs.Dist.{turns_by}
 use Rattle.sx_hollow.specs.Views.{sums_read}
 use Rattle.sx_hollow.specs.Walks.{stand_of}
 use Rattle.sx_hollow.proofs.Asking.{ask_leaf}
-use Rattle.sx_hollow.proofs.dist.HollowDistView.ask_leaf.Goals as goal
+use Rattle.sx_hollow.proofs.dist.HollowDistView.ask_at_leaf.Goals as goal
 
 pub returns-clause-value : goal.returns-clause-value
 returns-clause-value g c =
