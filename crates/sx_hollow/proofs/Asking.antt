@@ -1,5 +1,5 @@
 -- A step of a walk that asks the function, and what is left of such a walk.
-use Rattle.std.proofs.Common.{◌≡◌, ◌⊎◌, ℕ, zero, suc, ◌+◌, ◌-◌, ◌%◌, ◌^◌, ◌<◌, ◌≤◌, Bool, true, false, ◌==◌, ◌||◌, length, List, ◌++◌, take, drop, Some, None, Option, refl, sym, ap, subst, ◌∙◌, arith, inl, inr}
+use Rattle.std.proofs.Common.{◌≡◌, ◌⊎◌, ℕ, zero, suc, ◌+◌, ◌-◌, ◌%◌, ◌^◌, ◌<◌, ◌≤◌, Bool, true, false, ◌==◌, ◌||◌, length, List, ◌++◌, take, drop, Some, None, refl, sym, ap, subst, ◌∙◌, arith, inl, inr}
 use Rattle.std.specs.Bool.{nat_le}
 use Rattle.std.specs.List.{slice_index}
 use Rattle.std.specs.Prelude.{if◌then◌else◌, min}
@@ -29,8 +29,8 @@ descend_some left skip x s some fewer =
     elim (cases_lt (s.pos + skip) (length x)) [
       | inl inside ↦
           subst (λ (w : Walk). 0 < leaves_in w)
-              (sym (goes_at left skip x s (λ z. omega arith) fewer inside))
-              (child_some s left (s.pos + skip) (bit_at x (s.pos + skip)) some fewer)
+          (sym (goes_at left skip x s (λ z. omega arith) fewer inside))
+          (child_some s left (s.pos + skip) (bit_at x (s.pos + skip)) some fewer)
       | inr short ↦
           subst (λ (w : Walk). 0 < leaves_in w) (lost_at left skip x s (inr (inr short))) (omega arith)
     ]

@@ -1,7 +1,7 @@
 //! Blocks by the lists and the function of three delimiters, by functions that answer one turn to all
 //! strings, by lists of no trie, and where there is one delimiter or none.
 
-ghost use Rattle.std.specs.Prelude.{◌≡◌, ◌+◌, ◌<◌, ◌≤◌, ◌^◌, ℕ, length, slice_index};
+ghost use Rattle.std.specs.Prelude.{◌≡◌, ◌+◌, ◌*◌, ◌<◌, ◌≤◌, ◌^◌, ℕ, length, slice_index};
 ghost use Rattle.sx_spec.specs.Fields.{below_of};
 ghost use Rattle.sx_steps.specs.Blanks.{IsBlankOf};
 
@@ -15,7 +15,7 @@ use sx_ef::section::sums_check;
 use sx_ef::view::EliasFano;
 use sx_fields::bank::Words;
 use sx_sig::sign;
-use sx_static::{Built, FuncView, Method, build, function_check};
+use sx_static::{Built, FuncView, Method, Signature, build, function_check};
 use sx_steps::Steps;
 
 /// What a string gets over words that are no lists and no function.
@@ -53,20 +53,30 @@ fn section(alloc: Global, sums: &[u64]) -> Result<Vec<u64>, AllocError>
     Ok(words)
 }
 
+/// The signature of the bits `from` up to before `to` of a line, with a tag.
+fn fragment(tag: u32, line: &[u8], from: u32, to: u32) -> Signature
+    requires short { length line.now ≤ 8191 }
+    requires ordered { from ≤ to }
+    requires within { to ≤ 8 * (length line.now + 1) }
+{
+    sign(
+        SEED,
+        &BitView::key_bits(line).range(from, to),
+        Some(tag),
+        192,
+    )
+}
+
 /// The section of the function of the turns of the keys a, b, c and d at the delimiters a, b and c.
 fn turns_of_four(alloc: Global) -> Result<Vec<u64>, AllocError> {
-    let a = BitView::key_bits(b"a");
-    let b = BitView::key_bits(b"b");
-    let c = BitView::key_bits(b"c");
-    let d = BitView::key_bits(b"d");
     // 011000, 011001, no bit, 100000000 and twice 00000000
     let sigs = [
-        sign(SEED, &a.range(0, 6), Some(0), 192),
-        sign(SEED, &d.range(0, 6), Some(0), 192),
-        sign(SEED, &b.range(7, 7), Some(1), 192),
-        sign(SEED, &a.range(7, 16), Some(2), 192),
-        sign(SEED, &b.range(8, 16), Some(3), 192),
-        sign(SEED, &c.range(8, 16), Some(4), 192),
+        fragment(0, b"a", 0, 6),
+        fragment(0, b"d", 0, 6),
+        fragment(1, b"b", 7, 7),
+        fragment(2, b"a", 7, 16),
+        fragment(3, b"b", 8, 16),
+        fragment(4, b"c", 8, 16),
     ];
     let mut words = Vec::new(alloc);
     if let Built::Done(function) = build(alloc, &sigs, &[0, 2, 0, 1, 1, 1], 2, Method::Mwhc)? {

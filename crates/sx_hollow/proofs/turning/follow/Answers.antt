@@ -1,4 +1,4 @@
-use Rattle.std.proofs.Common.{◌+◌, arith, inl, inr}
+use Rattle.std.proofs.Common.{arith, inr}
 use Rattle.sx_bits.specs.Views.{bits_of}
 use Rattle.sx_hollow.specs.Walks.{stand_of}
 use Rattle.sx_hollow.proofs.Asking.{goes_some}

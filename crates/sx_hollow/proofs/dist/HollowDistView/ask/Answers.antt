@@ -20,8 +20,8 @@ returns-clause-value g c =
     let from = c.from.ensures in
     c.turned.ensures.value
     ∙ ask_turn (gaps (sums_read v.left)) (gaps (sums_read v.skip))
-        (turns_by v.turns c.args.signing.seed c.args.signing.sig_bits) v.delimiters
-        (bits_of c.args.view.now) (stand_of at) e.left e.skip c.turn-turn.result k rest y
-        c.requires.more c.requires.within c.entry-entry.ensures.left (omega arith) (omega arith)
-        (omega arith) c.entry-entry.ensures.skip (omega arith) c.range.ensures
-        c.turn-turn.ensures.value
+    (turns_by v.turns c.args.signing.seed c.args.signing.sig_bits) v.delimiters
+    (bits_of c.args.view.now) (stand_of at) e.left e.skip c.turn-turn.result k rest y
+    c.requires.more c.requires.within c.entry-entry.ensures.left (omega arith) (omega arith)
+    (omega arith) c.entry-entry.ensures.skip (omega arith) c.range.ensures
+    c.turn-turn.ensures.value

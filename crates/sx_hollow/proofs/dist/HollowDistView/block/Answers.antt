@@ -1,4 +1,4 @@
-use Rattle.std.proofs.Common.{◌+◌, ◌*◌, ◌≤◌, ◌∙◌, arith}
+use Rattle.std.proofs.Common.{◌∙◌, arith}
 use Rattle.sx_spec.specs.Reply.{gaps}
 use Rattle.sx_spec_kinds.specs.Hollow.{goes}
 use Rattle.sx_bits.specs.Views.{bits_of}
