@@ -1,3 +1,4 @@
+pub mod Asking
 pub mod Descents
 pub mod Gaps
 pub mod Rest

@@ -1,3 +1,4 @@
+pub mod Dist
 pub mod Tops
 pub mod Views
 pub mod Walks

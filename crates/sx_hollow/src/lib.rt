@@ -2,16 +2,21 @@
 //! many bits it skips, and the walk of a string by these numbers.
 #![tactic(auto)]
 
+mod dist;
 mod gap;
 mod keeping;
 mod lists;
 mod top;
+mod turning;
 mod view;
 mod walk;
 
+pub use dist::HollowDistView;
 pub use lists::{HollowLists, hollow_lists};
 pub use view::HollowView;
 
+#[cfg(test)]
+mod dist_tests;
 #[cfg(test)]
 mod lists_tests;
 #[cfg(test)]
