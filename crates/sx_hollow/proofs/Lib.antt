@@ -3,3 +3,6 @@ pub mod Gaps
 pub mod Rest
 pub mod NodeNumbers
 pub mod Tops
+pub mod KeyRuns
+pub mod NodeFragments
+pub mod TurnOrders

@@ -1,3 +1,4 @@
 pub mod Tops
 pub mod Views
 pub mod Walks
+pub mod Pairs

@@ -5,14 +5,18 @@
 mod gap;
 mod keeping;
 mod lists;
+mod node_pairs;
 mod top;
 mod view;
 mod walk;
 
 pub use lists::{HollowLists, hollow_lists};
+pub use node_pairs::{NodePair, Turn, pairs};
 pub use view::HollowView;
 
 #[cfg(test)]
 mod lists_tests;
+#[cfg(test)]
+mod pairs_tests;
 #[cfg(test)]
 mod view_tests;
