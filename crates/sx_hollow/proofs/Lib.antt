@@ -6,3 +6,5 @@ pub mod Tops
 pub mod KeyRuns
 pub mod NodeFragments
 pub mod TurnOrders
+pub mod TrieNames
+pub mod NodeLists

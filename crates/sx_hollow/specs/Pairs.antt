@@ -1,10 +1,10 @@
 -- Pairs of a hollow trie, by pieces of the keys, and the pairs of one node.
-use Rattle.std.specs.Prelude.{◌≡◌, ℕ, ◌-◌, ◌<◌, ◌≤◌, Bool, true, false, List, [], length, map, flat_map, Some, slice_index_or}
+use Rattle.std.specs.Prelude.{◌≡◌, ℕ, zero, suc, ◌-◌, ◌<◌, ◌≤◌, nat_lt, Bool, true, false, if◌then◌else◌, List, [], length, map, flat_map, Some, slice_index_or}
 use Rattle.std.specs.List.{AllZip, enumerate_from}
-use Rattle.sx_spec_strings.specs.Bits.{Bits, key_bits, is_below}
+use Rattle.sx_spec_strings.specs.Bits.{Bits, key_bits, common_prefix, is_below}
 use Rattle.sx_spec_strings.specs.Ordered.{in_order}
 use Rattle.sx_spec_kinds.specs.HollowDistributor.{NodePair as SpecPair, follow, turn_left, turn_right, fragment_of, inner_turn, leaf_turn, visitors, inner_pairs, leaf_pairs}
-use Rattle.sx_spec_kinds.specs.Trie.{extents_of}
+use Rattle.sx_spec_kinds.specs.Trie.{extents_of, name_len}
 use Rattle.sx_spec_kinds.specs.Pairs.{pair}
 use Rattle.sx_bits.specs.declared.pieces.Piece.{Piece}
 use Rattle.sx_bits.specs.Pieces.{IsPiece, piece_bits, piece_string}
@@ -97,3 +97,20 @@ all_leaf_pairs lines numbers first =
     let delimiters = delimiter_bits lines numbers in
     let extents = extents_of delimiters in
     flat_map (λ (i, d). leaf_pairs (map key_bits lines) extents i d) (enumerate_from first delimiters)
+
+-- ---- names
+
+-- the length of the name of inner node i
+abbrev pub name_at : (lines : List (List ℕ)) (numbers : List ℕ) (i : ℕ) → ℕ
+name_at lines numbers i =
+    let extents = extents_of (delimiter_bits lines numbers) in name_len extents (slice_index_or extents i [])
+
+-- how many bits delimiter j shares with the one before it, and one bit more; 0 for the first
+abbrev pub bits_before : List Bits → ℕ → ℕ
+bits_before ds zero = 0
+bits_before ds (suc j) = suc (length (common_prefix (slice_index_or ds j []) (slice_index_or ds (suc j) [])))
+
+-- how many it shares with the one after it, and one bit more; 0 for the last
+abbrev pub bits_after : List Bits → ℕ → ℕ
+bits_after ds j =
+    if nat_lt (suc j) (length ds) then suc (length (common_prefix (slice_index_or ds j []) (slice_index_or ds (suc j) []))) else 0

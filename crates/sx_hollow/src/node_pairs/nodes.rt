@@ -3,10 +3,10 @@
 ghost use Rattle.std.specs.Prelude.{◌≡◌, ◌+◌, ◌<◌, ◌≤◌, true, min, List, ◌++◌, length, take, OnOk};
 ghost use Rattle.sx_spec_strings.specs.Bits.{begins_with, common_prefix};
 ghost use Rattle.sx_spec_kinds.specs.HollowDistributor.{NodePair as SpecPair};
-ghost use Rattle.sx_spec_kinds.specs.Trie.{extents_of, name_len};
+ghost use Rattle.sx_spec_kinds.specs.Trie.{extents_of, name_len, node_at};
 ghost use Rattle.sx_trie.specs.Ranges.{string_at};
 ghost use Rattle.sx_trie.specs.Tries.{AreRising, IsTrieOf, delimiter_bits};
-ghost use Rattle.sx_hollow.specs.Pairs.{ArePairs, IsPairOf, IsVisited, inner_pairs_at, leaf_pairs_at, key_at, node_fragment, node_pair, node_pairs};
+ghost use Rattle.sx_hollow.specs.Pairs.{ArePairs, IsPairOf, IsVisited, bits_after, bits_before, inner_pairs_at, leaf_pairs_at, key_at, name_at, node_fragment, node_pair, node_pairs};
 
 use super::runs::{end_of_run, key_view, start_of_run};
 use super::turn::{NodePair, turn_of};
@@ -28,6 +28,21 @@ pub(crate) struct VisitedNode {
     pub(crate) leaf: bool,
 }
 
+/// The length of the name of inner node number `tag`.
+fn inner_name(keys: &KeyList, trie: &Trie, tag: u32) -> u32
+    requires built { IsTrieOf keys.now.lines trie.now }
+    requires inside { tag < length trie.now.nodes }
+    ensures value { result ≡ name_at keys.now.lines trie.now.delimiters tag }
+    ensures shorter { result ≤ (node_at trie.now.nodes tag).extent }
+{
+    if tag == 0 {
+        return 0;
+    }
+    let _node = trie.node(tag);
+    // the name ends with the bit that branches off the parent's extent
+    trie.parent_extent(tag) + 1
+}
+
 /// Inner node number `tag` of the trie of these keys.
 pub(crate) fn inner_node(
     keys: &KeyList,
@@ -42,12 +57,12 @@ pub(crate) fn inner_node(
     ensures pairs { node_pairs keys.now.lines result
         ≡ inner_pairs_at keys.now.lines delimiters.now tag }
 {
+    let _count = keys.len();
     let node = trie.node(tag);
-    let name = if tag == 0 { 0 } else { trie.parent_extent(tag) + 1 };
     VisitedNode {
         tag,
         key: delimiters[node.first as usize],
-        name,
+        name: inner_name(keys, trie, tag),
         extent: node.extent,
         leaf: false,
     }
@@ -63,20 +78,41 @@ fn shared(keys: &KeyList, a: u32, b: u32) -> u32
     key_view(keys, a).lcp(&key_view(keys, b)) + 1
 }
 
+/// How many bits leaf number `leaf` shares with the one before it, and one bit more; 0 for the first.
+fn parted_before(keys: &KeyList, delimiters: &[u32], leaf: usize) -> u32
+    requires rising { AreRising keys.now.lines delimiters.now }
+    requires inside { leaf < length delimiters.now }
+    ensures { result ≡ bits_before (delimiter_bits keys.now.lines delimiters.now) leaf }
+{
+    if leaf == 0 {
+        return 0;
+    }
+    shared(keys, delimiters[leaf - 1], delimiters[leaf])
+}
+
+/// How many bits leaf number `leaf` shares with the one after it, and one bit more; 0 for the last.
+fn parted_after(keys: &KeyList, delimiters: &[u32], leaf: usize) -> u32
+    requires rising { AreRising keys.now.lines delimiters.now }
+    requires inside { leaf < length delimiters.now }
+    ensures { result ≡ bits_after (delimiter_bits keys.now.lines delimiters.now) leaf }
+{
+    let _count = keys.len();
+    if delimiters.len() - leaf == 1 {
+        return 0;
+    }
+    shared(keys, delimiters[leaf], delimiters[leaf + 1])
+}
+
 /// The length of the name of leaf number `leaf`, which ends with the bit that parts it from the
-/// neighbours.
+/// nearer neighbour.
 fn leaf_name(keys: &KeyList, delimiters: &[u32], leaf: usize) -> u32
     requires rising { AreRising keys.now.lines delimiters.now }
     requires inside { leaf < length delimiters.now }
     ensures { result ≡ name_len (extents_of (delimiter_bits keys.now.lines delimiters.now))
         (string_at keys.now.lines delimiters.now leaf) }
 {
-    let key = delimiters[leaf];
-    let before = if leaf > 0 { shared(keys, delimiters[leaf - 1], key) } else { 0 };
-    if leaf + 1 < delimiters.len() {
-        return before.max(shared(keys, key, delimiters[leaf + 1]));
-    }
-    before
+    let _count = keys.len();
+    parted_before(keys, delimiters, leaf).max(parted_after(keys, delimiters, leaf))
 }
 
 /// Leaf number `leaf`, with its tag.
@@ -87,6 +123,7 @@ pub(crate) fn leaf_node(keys: &KeyList, delimiters: &[u32], tag: u32, leaf: u32)
     ensures pairs { node_pairs keys.now.lines result
         ≡ leaf_pairs_at keys.now.lines delimiters.now tag leaf }
 {
+    let _count = keys.len();
     VisitedNode {
         tag,
         key: delimiters[leaf as usize],

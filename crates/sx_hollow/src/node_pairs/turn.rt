@@ -1,6 +1,6 @@
 //! Where a walk goes on from a node, by its fragment there.
 
-ghost use Rattle.std.specs.Prelude.{◌≡◌};
+ghost use Rattle.std.specs.Prelude.{◌≡◌, ◌≤◌};
 ghost use Rattle.sx_spec_kinds.specs.HollowDistributor.{inner_turn, leaf_turn};
 ghost use Rattle.sx_bits.specs.Views.{bits_of};
 ghost use Rattle.sx_hollow.specs.Pairs.{node_turn, turn_number};
@@ -27,7 +27,8 @@ impl Turn {
     /// The number of the turn, as a function keeps it.
     #[inline(always)]
     pub fn number(self) -> u64
-        ensures { result ≡ turn_number self }
+        ensures value { result ≡ turn_number self }
+        ensures small { result ≤ 2 }
     {
         match self {
             Turn::Follow => 0,
