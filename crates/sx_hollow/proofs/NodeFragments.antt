@@ -1,12 +1,12 @@
 -- The fragments of keys at a node: equal ones are neighbours, and the distinct ones stand in order.
-use Rattle.std.proofs.Common.{◌≡◌, ℕ, zero, suc, ◌+◌, ◌-◌, ◌<◌, ◌≤◌, Bool, true, false, List, [], ◌∷◌, ◌++◌, length, get_or, take, drop, map, min, refl, sym, ap, ap₂, subst, ◌∙◌, arith, inl, inr}
-use Rattle.std.proofs.lemmas.Bool.{cases_Bool, cases_lt, cases_eq, false_from_ne_true}
+use Rattle.std.proofs.Common.{◌≡◌, ℕ, zero, suc, ◌+◌, ◌-◌, ◌<◌, ◌≤◌, true, false, List, [], ◌∷◌, ◌++◌, length, get_or, take, drop, map, min, refl, sym, ap, ap₂, subst, ◌∙◌, arith, inl, inr}
+use Rattle.std.proofs.lemmas.Bool.{cases_Bool, cases_lt, false_from_ne_true}
 use Rattle.std.proofs.lemmas.List.{length-drop, length-take-le, take_all, take-take, drop-take}
 use Rattle.std.proofs.Math.Seq.{take-add}
 use Rattle.sx_spec_strings.specs.Bits.{Bits, AreKeyBits, begins_with, is_below}
 use Rattle.sx_spec_strings.specs.Ordered.{IsStrictOrder, in_order, IsRising, IsIn}
 use Rattle.sx_spec_strings.proofs.OrderLaws
-use Rattle.sx_spec_strings.proofs.BitLaws.{begins_tail, begins_refl, begins_whole, begins_length, below_same_head, below_irrefl, below_trans, below_asym, below_total}
+use Rattle.sx_spec_strings.proofs.BitLaws.{begins_tail, begins_length, below_same_head, below_irrefl, below_trans, below_total}
 use Rattle.sx_spec_strings.proofs.OrderedLaws.{in_order_from, in_in_order, in_order_rising}
 use Rattle.sx_spec_kinds.specs.HollowDistributor.{fragment_of, visitors}
 use Rattle.sx_spec_kinds.proofs.NameLaws.{begins_take, take_of_begins, in_at, at_in}

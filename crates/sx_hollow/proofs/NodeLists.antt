@@ -1,18 +1,18 @@
 -- The pairs of nodes as those of the definitions, and of all nodes.
-use Rattle.std.proofs.Common.{◌≡◌, ℕ, zero, suc, ◌+◌, ◌-◌, ◌<◌, ◌≤◌, Bool, true, false, List, [], ◌∷◌, ◌++◌, length, get_or, take, drop, map, Some, refl, sym, ap, ap₂, subst, ◌∙◌, arith, inl, inr, append_assoc}
+use Rattle.std.proofs.Common.{◌≡◌, ℕ, zero, suc, ◌+◌, ◌-◌, ◌<◌, ◌≤◌, List, [], ◌∷◌, ◌++◌, length, get_or, take, drop, map, Some, refl, sym, ap, ap₂, subst, ◌∙◌, arith, inl, inr, append_assoc}
 use Rattle.std.specs.Prelude.{filter, flat_map}
-use Rattle.std.specs.List.{AllByRecursion, AllZip, enumerate_from}
+use Rattle.std.specs.List.{AllByRecursion, enumerate_from}
 use Rattle.std.proofs.lemmas.List.{append-nil, take_all, take-take, length-drop, drop-take}
-use Rattle.sx_spec_strings.specs.Bits.{Bits, AreKeyBits, begins_with, is_below, key_bits, tagged}
+use Rattle.sx_spec_strings.specs.Bits.{Bits, begins_with, is_below, key_bits, tagged}
 use Rattle.sx_spec_strings.specs.Ordered.{IsIn, in_order}
 use Rattle.sx_spec_kinds.specs.Trie.{extents_of, name_len}
-use Rattle.sx_spec_kinds.specs.HollowDistributor.{NodePair as SpecPair, fragment_of, visitors, inner_turn, leaf_turn, inner_pair, leaf_pair, inner_pairs, leaf_pairs, pairs_of}
+use Rattle.sx_spec_kinds.specs.HollowDistributor.{NodePair as SpecPair, fragment_of, inner_pair, leaf_pair, inner_pairs, leaf_pairs, pairs_of}
 use Rattle.sx_spec_kinds.specs.Pairs.{pair, turns_pairs}
 use Rattle.sx_spec_kinds.proofs.CountLaws.{under_from}
-use Rattle.sx_bits.specs.Pieces.{IsPiece, piece_bits, piece_string}
+use Rattle.sx_bits.specs.Pieces.{IsPiece}
 use Rattle.sx_trie.specs.Tries.{delimiter_bits}
 use Rattle.sx_hollow.specs.declared.node_pairs.turn.NodePair.{NodePair}
-use Rattle.sx_hollow.specs.Pairs.{IsPairOf, ArePairs, string_turn, inner_pairs_at, leaf_pairs_at, all_inner_pairs, all_leaf_pairs}
+use Rattle.sx_hollow.specs.Pairs.{ArePairs, string_turn, inner_pairs_at, leaf_pairs_at, all_inner_pairs, all_leaf_pairs}
 
 -- ---- one node
 

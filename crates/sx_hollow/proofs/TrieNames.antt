@@ -1,18 +1,16 @@
 -- The nodes of the trie of delimiters by keys: their extents, and the lengths of their names.
-use Rattle.std.proofs.Common.{◌≡◌, ℕ, zero, suc, max, ◌+◌, ◌-◌, ◌<◌, ◌≤◌, true, false, List, [], ◌∷◌, ◌++◌, length, get_or, take, drop, map, Some, refl, sym, ap, ap₂, subst, ◌∙◌, arith, inl, inr}
-use Rattle.std.specs.Prelude.{slice_get, slice_index, slice_index_or, count_by, filter, nat_lt, if◌then◌else◌}
+use Rattle.std.proofs.Common.{◌≡◌, ℕ, zero, suc, max, ◌+◌, ◌-◌, ◌<◌, ◌≤◌, true, false, List, [], ◌∷◌, length, get_or, take, map, Some, refl, sym, ap, ap₂, subst, ◌∙◌, arith, inl, inr}
+use Rattle.std.specs.Prelude.{slice_get, slice_index, slice_index_or, count_by}
 use Rattle.std.proofs.lemmas.Bool.{cases_lt, cases_eq, lt-ltb, le-ltb}
-use Rattle.std.proofs.lemmas.List.{length-map, get_or-map, take_all, take-take, length-drop, drop-take}
-use Rattle.sx_spec_strings.specs.Bits.{Bits, AreKeyBits, begins_with, is_proper_prefix, common_prefix, is_below, key_bits}
-use Rattle.sx_spec_strings.specs.Ordered.{IsIn, in_order}
-use Rattle.sx_spec_strings.proofs.BitLaws.{begins_trans, begins_length, begins_whole, whole_or_proper, proper_parts, common_begins_left, common_begins_right, common_longest, below_irrefl}
+use Rattle.std.proofs.lemmas.List.{length-map, get_or-map, take_all}
+use Rattle.sx_spec_strings.specs.Bits.{Bits, AreKeyBits, begins_with, common_prefix, is_below, key_bits}
+use Rattle.sx_spec_strings.specs.Ordered.{IsIn}
+use Rattle.sx_spec_strings.proofs.BitLaws.{begins_length, whole_or_proper, proper_parts, common_begins_left, common_begins_right, common_longest, below_irrefl}
 use Rattle.sx_spec.proofs.Signatures.{length-key_bits}
-use Rattle.sx_spec_kinds.specs.Trie.{Node, no_node, node_at, nodes_of, node_of, extents_of, name_len}
-use Rattle.sx_spec_kinds.specs.HollowDistributor.{NodePair as SpecPair, fragment_of, visitors, inner_turn, leaf_turn, inner_pair, leaf_pair, inner_pairs, leaf_pairs}
+use Rattle.sx_spec_kinds.specs.Trie.{Node, no_node, node_at, node_of, extents_of, name_len}
 use Rattle.sx_spec_kinds.proofs.NameLaws.{in_at, at_in, take_of_begins, same_or_not, name_len_above, name_len_from}
 use Rattle.sx_spec_kinds.proofs.TrieLaws.{keys_prefix, common_extent, parts_of_extent, branch_below, length-extents_of, common_sym}
 use Rattle.sx_spec_kinds.proofs.ChildLaws.{begins_longer}
-use Rattle.sx_spec_kinds.proofs.CountLaws.{under_from}
 use Rattle.sx_spec_kinds.proofs.HollowLaws.{stands_start}
 use Rattle.sx_bits.specs.KeyLists.{Keys, IsKeyList}
 use Rattle.sx_bits.proofs.Faultless.{key_file}

@@ -3,7 +3,6 @@ use Rattle.std.proofs.Common.{◌≡◌, ℕ, Bool, true, false, [], ◌∷◌, 
 use Rattle.std.specs.declared.cmp.Ordering.{Ordering}
 use Rattle.std.specs.declared.cmp.Ordering.TheVariants.{Less, Equal, Greater}
 use Rattle.std.specs.Ordering.{is_lt}
-use Rattle.std.specs.Prelude.{if◌then◌else◌}
 use Rattle.sx_spec_strings.specs.Bits.{Bits, bits_cmp, is_below}
 use Rattle.sx_spec_strings.proofs.KeyBits.{tests_are_the_order}
 use Rattle.sx_spec_kinds.specs.HollowDistributor.{follow, turn_left, turn_right, inner_turn, leaf_turn}

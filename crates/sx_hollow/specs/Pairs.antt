@@ -6,7 +6,6 @@ use Rattle.sx_spec_strings.specs.Ordered.{in_order}
 use Rattle.sx_spec_kinds.specs.HollowDistributor.{NodePair as SpecPair, follow, turn_left, turn_right, fragment_of, inner_turn, leaf_turn, visitors, inner_pairs, leaf_pairs}
 use Rattle.sx_spec_kinds.specs.Trie.{extents_of, name_len}
 use Rattle.sx_spec_kinds.specs.Pairs.{pair}
-use Rattle.sx_bits.specs.declared.pieces.Piece.{Piece}
 use Rattle.sx_bits.specs.Pieces.{IsPiece, piece_bits, piece_string}
 use Rattle.sx_trie.specs.Tries.{delimiter_bits}
 use Rattle.sx_hollow.specs.declared.node_pairs.turn.Turn.{Turn}

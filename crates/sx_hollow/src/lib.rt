@@ -1,5 +1,6 @@
 //! Hollow tries: of each inner node of a trie of keys only how many leaves its left child has and how
-//! many bits it skips, and the walk of a string by these numbers.
+//! many bits it skips, and the walk of a string by these numbers; and the fragments of keys at the
+//! nodes of a trie of some of them.
 #![tactic(auto)]
 
 mod gap;

@@ -14,12 +14,11 @@ mod nodes;
 mod runs;
 mod turn;
 
-pub use turn::{NodePair, Turn};
-
 use nodes::{inner_node, leaf_node, push_node};
 use std::alloc::{AllocError, Global};
 use sx_bits::KeyList;
 use sx_trie::Trie;
+pub use turn::{NodePair, Turn};
 
 /// Puts the pairs of the inner nodes behind the others.
 fn push_inner(
@@ -57,7 +56,11 @@ fn push_leaves(
 {
     let _count = keys.len();
     for leaf in 0..delimiters.len() as u32 {
-        push_node(pairs, keys, &leaf_node(keys, delimiters, first + leaf, leaf))?;
+        push_node(
+            pairs,
+            keys,
+            &leaf_node(keys, delimiters, first + leaf, leaf),
+        )?;
     }
     Ok(())
 }
@@ -68,11 +71,7 @@ fn push_leaves(
 ///
 /// # Errors
 /// Only for want of memory.
-pub fn pairs(
-    alloc: Global,
-    keys: &KeyList,
-    delimiters: &[u32],
-) -> Result<Vec<NodePair>, AllocError>
+pub fn pairs(alloc: Global, keys: &KeyList, delimiters: &[u32]) -> Result<Vec<NodePair>, AllocError>
     requires delimiters { AreRising keys.now.lines delimiters.now }
     ensures pairs { IfOk result (λ pairs. ArePairs keys.now.lines pairs.items
         (pairs_of (map key_bits keys.now.lines)

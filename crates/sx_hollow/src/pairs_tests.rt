@@ -43,7 +43,10 @@ fn pairs_of_few_keys(rt: HostRuntime) -> Result<(), Fail> {
     assert_eq!(rt; found.len(), 0);
     assert_eq!(rt; keys.len(), 2);
     let found = pairs_of_one(rt.alloc(), &keys)?;
-    let want = [pair(0, 0, 0, 16, Turn::Left), pair(0, 1, 0, 16, Turn::Right)];
+    let want = [
+        pair(0, 0, 0, 16, Turn::Left),
+        pair(0, 1, 0, 16, Turn::Right),
+    ];
     assert_eq!(rt; found.as_slice(), want.as_slice());
     keys.push(b"c")?;
     keys.push(b"d")?;
@@ -59,6 +62,13 @@ fn pairs_of_few_keys(rt: HostRuntime) -> Result<(), Fail> {
         pair(4, 2, 8, 16, Turn::Left),
     ];
     assert_eq!(rt; found.as_slice(), want.as_slice());
-    assert_eq!(rt; (Turn::Follow.number(), Turn::Left.number(), Turn::Right.number()), (0, 1, 2));
+    assert_eq!(rt;
+        (
+            Turn::Follow.number(),
+            Turn::Left.number(),
+            Turn::Right.number()
+        ),
+        (0, 1, 2)
+    );
     Ok(())
 }

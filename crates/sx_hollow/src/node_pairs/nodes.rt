@@ -44,12 +44,7 @@ fn inner_name(keys: &KeyList, trie: &Trie, tag: u32) -> u32
 }
 
 /// Inner node number `tag` of the trie of these keys.
-pub(crate) fn inner_node(
-    keys: &KeyList,
-    trie: &Trie,
-    delimiters: &[u32],
-    tag: u32,
-) -> VisitedNode
+pub(crate) fn inner_node(keys: &KeyList, trie: &Trie, delimiters: &[u32], tag: u32) -> VisitedNode
     requires built { IsTrieOf keys.now.lines trie.now }
     requires same { trie.now.delimiters ≡ delimiters.now }
     requires inside { tag < length trie.now.nodes }
@@ -175,7 +170,8 @@ pub(crate) fn push_node(
     let start = start_of_run(keys, node.key, node.name);
     let mut key = start;
     while key < end {
-        let to = node.extent.min(key_view(keys, key).len());
+        let len = key_view(keys, key).len();
+        let to = node.extent.min(len);
         pairs.push(pair_at(keys, node, key, to))?;
         // the keys behind it that have the same fragment
         key = end_of_run(keys, key, to);

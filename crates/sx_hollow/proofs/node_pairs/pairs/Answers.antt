@@ -1,7 +1,6 @@
-use Rattle.std.proofs.Common.{◌≡◌, [], ◌++◌, length, map, sym, ap, ◌∙◌, arith, subst}
+use Rattle.std.proofs.Common.{[], ◌++◌, map, sym, ap, ◌∙◌, arith, subst}
 use Rattle.std.proofs.lemmas.List.{length-map}
 use Rattle.sx_spec_strings.specs.Bits.{key_bits}
-use Rattle.sx_spec_kinds.specs.Trie.{extents_of}
 use Rattle.sx_spec_kinds.specs.HollowDistributor.{pairs_of}
 use Rattle.sx_spec_kinds.proofs.TrieLaws.{length-extents_of}
 use Rattle.sx_spec_kinds.proofs.PairLaws.{pairs_most}

@@ -1,4 +1,4 @@
-use Rattle.std.proofs.Common.{◌≡◌, ap, ◌∙◌, arith}
+use Rattle.std.proofs.Common.{ap, ◌∙◌, arith}
 use Rattle.std.specs.Prelude.{[], map, slice_index, slice_index_or}
 use Rattle.sx_spec_strings.specs.Bits.{key_bits}
 use Rattle.sx_spec_kinds.specs.Trie.{Node, extents_of}

@@ -1,7 +1,7 @@
-use Rattle.std.proofs.Common.{◌≡◌, ◌<◌, ◌≤◌, length, map, sym, ap, subst, ◌∙◌, arith}
+use Rattle.std.proofs.Common.{◌<◌, length, map, sym, ap, ◌∙◌, arith}
 use Rattle.std.specs.Prelude.{slice_index}
 use Rattle.std.proofs.lemmas.List.{length-map}
-use Rattle.sx_spec_strings.specs.Bits.{Bits, key_bits}
+use Rattle.sx_spec_strings.specs.Bits.{key_bits}
 use Rattle.sx_spec_kinds.specs.Trie.{extents_of, name_len}
 use Rattle.sx_spec_kinds.proofs.NameLaws.{in_at}
 use Rattle.sx_spec_kinds.specs.HollowDistributor.{leaf_pairs}

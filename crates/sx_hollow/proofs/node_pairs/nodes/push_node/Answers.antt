@@ -1,12 +1,11 @@
-use Rattle.std.proofs.Common.{◌≡◌, ℕ, ◌+◌, ◌<◌, ◌≤◌, true, false, List, [], ◌∷◌, ◌++◌, length, map, min, take, get_or, sym, ap, ap₂, subst, ◌∙◌, arith, inl, inr, append_assoc}
+use Rattle.std.proofs.Common.{◌≡◌, ℕ, ◌<◌, ◌≤◌, true, [], ◌∷◌, ◌++◌, length, map, min, take, get_or, sym, ap, subst, ◌∙◌, arith, inl, inr, append_assoc}
 use Rattle.std.proofs.lemmas.Bool.{cases_lt}
 use Rattle.std.proofs.lemmas.List.{length-map, map-append}
 use Rattle.std.proofs.lemmas.Slice.Zip.{all_zipped_more}
-use Rattle.sx_spec_strings.specs.Bits.{Bits, begins_with, key_bits}
-use Rattle.sx_spec_kinds.specs.HollowDistributor.{NodePair as SpecPair}
+use Rattle.sx_spec_strings.specs.Bits.{begins_with, key_bits}
 use Rattle.sx_bits.proofs.KeyListBits.{key_list_bits}
 use Rattle.sx_hollow.specs.Pairs.{ArePairs, IsPairOf, key_at, node_fragment, node_pair, node_pairs}
-use Rattle.sx_hollow.proofs.NodeFragments.{told_none, told_more, told_all}
+use Rattle.sx_hollow.proofs.NodeFragments.{told_more, told_all}
 use Rattle.sx_hollow.proofs.node_pairs.nodes.push_node.Goals as goal
 
 pub loop-key-preserved : goal.loop-key-preserved
@@ -29,7 +28,7 @@ loop-key-preserved c =
     let F = c.loop-key.invariant.fragments in
     let f = node_fragment n (key_at lines c.loop-key.key) in
     let to_is : c.min-to.result ≡ min n.extent (length (key_at lines c.loop-key.key)) =
-    c.min-to.ensures ∙ ap (min n.extent) (c.len.ensures.value ∙ ap length c.key_view.ensures) in
+    c.min-to.ensures ∙ ap (min n.extent) (c.len-len.ensures.value ∙ ap length c.key_view.ensures) in
     record {
       from = omega arith;
       fragments = F ++ f ∷ [];
@@ -66,4 +65,4 @@ returns c =
     let all = told_all ks keys d n.name n.extent c.requires.ordered c.requires.named start end within visits
     c.loop-key.key c.loop-key.invariant.fragments c.loop-key.invariant.told (omega arith) (λ i low high. c.end_of_run-end.ensures.beyond i low (omega arith)) in
     λ before are.
-        subst (λ fs. ArePairs lines c.loop-key.pairs.items (before ++ map (node_pair lines n) fs)) all (c.loop-key.invariant.pairs before are)
+    subst (λ fs. ArePairs lines c.loop-key.pairs.items (before ++ map (node_pair lines n) fs)) all (c.loop-key.invariant.pairs before are)

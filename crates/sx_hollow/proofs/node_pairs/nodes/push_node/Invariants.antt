@@ -1,4 +1,4 @@
-use Rattle.std.proofs.Common.{◌≡◌, ◌-◌, ◌≤◌, List, ◌++◌, length, map}
+use Rattle.std.proofs.Common.{◌-◌, ◌≤◌, List, ◌++◌, map}
 use Rattle.sx_spec_strings.specs.Bits.{Bits, key_bits}
 use Rattle.sx_spec_kinds.specs.HollowDistributor.{NodePair as SpecPair}
 use Rattle.sx_hollow.specs.Pairs.{ArePairs, key_at, node_pair}

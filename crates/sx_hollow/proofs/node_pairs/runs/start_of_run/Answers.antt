@@ -1,7 +1,6 @@
-use Rattle.std.proofs.Common.{◌≡◌, ◌+◌, ◌-◌, true, false, length, map, take, sym, ap, ◌∙◌, arith}
-use Rattle.sx_spec_strings.specs.Bits.{AreKeyBits, begins_with, key_bits}
+use Rattle.std.proofs.Common.{◌≡◌, ◌-◌, true, false, map, take, sym, ap, ◌∙◌, arith}
+use Rattle.sx_spec_strings.specs.Bits.{begins_with, key_bits}
 use Rattle.sx_spec_kinds.proofs.NameLaws.{begins_take}
-use Rattle.sx_bits.specs.Views.{bits_of}
 use Rattle.sx_bits.proofs.KeyListBits.{key_list_bits}
 use Rattle.std.proofs.lemmas.List.{length-map}
 use Rattle.sx_hollow.specs.Pairs.{key_at}

@@ -1,4 +1,4 @@
-use Rattle.std.proofs.Common.{◌≡◌, ℕ, ◌-◌, ◌<◌, ◌≤◌, true, false, length, take}
+use Rattle.std.proofs.Common.{◌≡◌, ℕ, ◌-◌, ◌<◌, ◌≤◌, true, false, take}
 use Rattle.sx_spec_strings.specs.Bits.{begins_with}
 use Rattle.sx_hollow.specs.Pairs.{key_at}
 use Rattle.sx_hollow.proofs.node_pairs.runs.start_of_run.Given as goal
