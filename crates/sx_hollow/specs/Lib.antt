@@ -2,3 +2,4 @@ pub mod Dist
 pub mod Tops
 pub mod Views
 pub mod Walks
+pub mod Pairs

@@ -1,11 +1,13 @@
 //! Hollow tries: of each inner node of a trie of keys only how many leaves its left child has and how
-//! many bits it skips, and the walk of a string by these numbers.
+//! many bits it skips, and the walk of a string by these numbers; and the fragments of keys at the
+//! nodes of a trie of some of them.
 #![tactic(auto)]
 
 mod dist;
 mod gap;
 mod keeping;
 mod lists;
+mod node_pairs;
 mod top;
 mod turning;
 mod view;
@@ -13,11 +15,14 @@ mod walk;
 
 pub use dist::HollowDistView;
 pub use lists::{HollowLists, hollow_lists};
+pub use node_pairs::{NodePair, Turn, pairs};
 pub use view::HollowView;
 
 #[cfg(test)]
 mod dist_tests;
 #[cfg(test)]
 mod lists_tests;
+#[cfg(test)]
+mod pairs_tests;
 #[cfg(test)]
 mod view_tests;
