@@ -1,6 +1,6 @@
 -- What a dump replies.
 use Rattle.std.proofs.Common.{◌≡◌, ℕ, Bool, true, false, refl, ◌+◌, List, length, Option, Some, None, sym, ap, ◌∙◌}
-use Rattle.std.specs.Prelude.{◌==◌, ◌≢◌, if◌then◌else◌}
+use Rattle.std.specs.Prelude.{◌==◌, if◌then◌else◌}
 use Rattle.std.proofs.lemmas.Bool.{eq-eqb, ne_eqb}
 use Rattle.sx_fields.specs.declared.bank.WordBank.{Ghosts}
 use Rattle.sx_fields.specs.declared.packed.Packed.{Packed}
@@ -13,11 +13,10 @@ use Rattle.sx_spec_kinds.specs.Reads.{reads_of, unsigned_reads}
 use Rattle.sx_spec_strings.specs.Bits.{Bits, tagged}
 use Rattle.sx_spec.specs.declared.Signature.{Signature}
 use Rattle.sx_spec.specs.Layout.{Dump, Header as HeaderOf, header_of}
-use Rattle.sx_spec.specs.Reply.{answer_of, function_in, gaps, kept_numbers, kind_reply, section_at, sign, signatures_in, string_reply}
+use Rattle.sx_spec.specs.Reply.{answer_of, gaps, kept_numbers, kind_reply, section_at, sign, signatures_in, string_reply}
 use Rattle.sx_spec.specs.Signature.{signature}
-use Rattle.sx_spec.specs.StaticFunction.{Function, value_of}
+use Rattle.sx_spec.specs.StaticFunction.{value_of}
 use Rattle.sx_static.specs.declared.view.FuncView.{FuncView}
-use Rattle.sx_static.specs.Viewing.{viewed}
 use Rattle.sx_signed.specs.Lookup.{place_of_signature}
 use Rattle.sx_signed.proofs.Lookups.{none_signed, signed_by_signature}
 use Rattle.sx_lcp.specs.declared.lcp.LcpView.{LcpView}
@@ -28,7 +27,7 @@ use Rattle.sx_sections.specs.declared.header.Header.{Header}
 use Rattle.sx_sections.specs.declared.place.Place.{Place}
 use Rattle.sx_dump.specs.Opening.{IsOpened, dump_in}
 use Rattle.sx_dump.specs.Replying.{kept_reads, place_kept, string_reads}
-use Rattle.sx_dump.specs.Viewing.{IsFuncView, IsHollowView, IsKeptView, IsLcp2View, IsLcpView, ReadsFunction, ReadsKept, numbers_by, sums_by}
+use Rattle.sx_dump.specs.Viewing.{IsFuncView, IsHollowView, IsLcp2View, IsLcpView, ReadsFunction, ReadsKept, numbers_by, sums_by}
 
 -- ---- by what is kept
 

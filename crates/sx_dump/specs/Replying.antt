@@ -1,5 +1,5 @@
 -- What a dump replies to a string, by what its kind replies.
-use Rattle.std.specs.Prelude.{ℕ, ◌==◌, if◌then◌else◌, List, Option, length}
+use Rattle.std.specs.Prelude.{ℕ, ◌==◌, if◌then◌else◌, Option, length}
 use Rattle.sx_spec_strings.specs.Bits.{Bits}
 use Rattle.sx_spec_kinds.specs.Reads.{reads_of}
 use Rattle.sx_spec.specs.declared.Signature.{Signature}

@@ -91,8 +91,8 @@ impl<B: WordBank + Copy> Dump<B> {
     }
 
     /// The reply to a line of at most 8,191 bytes, in at most as many reads of words as its kind
-    /// takes, and two more of a signed dump: for a key its value. For any other line it is whatever the
-    /// sections give, and of a signed dump none, but for chance.
+    /// takes, and two more of a signed dump: for a key its value, and for any other line whatever the
+    /// sections give. A signed dump gives none where it doesn't keep the line's number at the place.
     #[inline(always)]
     pub fn reply<L: Ledger>(&self, line: &[u8], steps: &mut Steps<L>) -> i128
         requires { length line.now ≤ 8191 }

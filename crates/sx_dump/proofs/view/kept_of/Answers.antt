@@ -1,7 +1,7 @@
-use Rattle.std.proofs.Common.{◌≡◌, ◌≢◌, ◌-◌, ◌<◌, ℕ, Some, ap, length, subst, sym, ◌∙◌, arith}
+use Rattle.std.proofs.Common.{◌≡◌, ◌≢◌, ◌-◌, ◌<◌, ℕ, length, subst, sym, ◌∙◌, arith}
 use Rattle.sx_spec.specs.Layout.{header_of}
 use Rattle.sx_dump.specs.Opening.{IsListAt}
-use Rattle.sx_dump.specs.Viewing.{IsKeptView, ReadsKept, ReadsNumbers}
+use Rattle.sx_dump.specs.Viewing.{ReadsKept, ReadsNumbers}
 use Rattle.sx_dump.proofs.Sections.{kept_numbers_are, kept_there, kept_width, places_some, signed_some}
 use Rattle.sx_dump.proofs.view.kept_of.Goals as goal
 

@@ -1,4 +1,4 @@
-use Rattle.std.proofs.Common.{◌∙◌, Some, refl, arith}
+use Rattle.std.proofs.Common.{◌∙◌}
 use Rattle.sx_dump.specs.Opening.{dump_in}
 use Rattle.sx_dump.proofs.Replies.{none_kept, unsigned_kept}
 use Rattle.sx_dump.proofs.dump.Dump.where_kept.Goals as goal
