@@ -2,6 +2,7 @@
 //! many bits it skips, and the walk of a string by these numbers.
 #![tactic(auto)]
 
+mod cursors;
 mod gap;
 mod keeping;
 mod lists;
