@@ -101,8 +101,7 @@ impl<B: WordBank + Copy> EliasFano<B> {
         ensures counted { steps.old < steps.new }
         ensures cost { steps.new ≤ steps.old + 38 }
     {
-        let place = self.upper.select(i as u64, steps);
-        self.number_of(i, place, steps)
+        self.cursor(i, steps).number
     }
 
     /// Number `i`, whose one stands at `place`, in at most two ticks.
