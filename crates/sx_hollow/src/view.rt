@@ -133,26 +133,29 @@ impl<B: WordBank + Copy> HollowView<B> {
         }
     }
 
-    /// What is kept of the inner node at which a walk stands, if it is kept. At most 4 words are read.
+    /// What is kept of the inner node at which a walk stands, if it is kept. At most 2 words are read.
     #[inline(always)]
     fn kept<L: Ledger>(&self, at: &Stand, steps: &mut Steps<L>) -> Option<Entry>
         ensures node { IfSome result (λ e. e.node ≡ at.now.node) }
         ensures numbers { IfSome result (IsEntryOf (gaps (sums_read self.now.left))
             (gaps (sums_read self.now.skip))) }
         ensures counted { steps.old ≤ steps.new }
-        ensures cost { steps.new ≤ steps.old + 4 }
+        ensures cost { steps.new ≤ steps.old + 2 }
     {
         let first = SIZE * at.place as usize;
-        if first + 3 >= self.top.words() || self.top.word(first, steps) != at.node {
+        if first + 1 >= self.top.words() {
             return None;
         }
-        let places = self.top.word(first + 3, steps);
+        let low = self.top.word(first, steps);
+        if low % HALF != at.node {
+            return None;
+        }
+        let high = self.top.word(first + 1, steps);
         Some(Entry {
             node: at.node,
-            left: self.top.word(first + 1, steps),
-            skip: self.top.word(first + 2, steps),
-            zero: (places % HALF) as u32,
-            one: (places / HALF) as u32,
+            left: low / HALF,
+            skip: high % HALF,
+            children: (high / HALF) as u32,
         })
     }
 }

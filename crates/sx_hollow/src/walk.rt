@@ -97,11 +97,8 @@ impl Stand {
         ensures short { IfSome result (λ s. s.pos ≤ length (bits_of view.now)) }
     {
         let next = self.descend(entry.left, entry.skip, view)?;
-        let place = if next.first == self.first {
-            entry.zero
-        } else {
-            entry.one
-        };
+        let right = u32::from(next.first != self.first);
+        let place = entry.children.wrapping_add(right);
         Some(Stand { place, ..next })
     }
 
