@@ -58,11 +58,11 @@ all_bits lines =
     sym (fill_by_all (λ i. key_bits (slice_index_or lines i [])) (map key_bits lines) (length lines) [] (length-map lines key_bits)
     (λ k below. get_or-map key_bits lines k [] [] below))
 
-left_length : (ks : List Bits) → length (left_counts ks) ≡ length (extents_of ks)
+pub left_length : (ks : List Bits) → length (left_counts ks) ≡ length (extents_of ks)
 unfolding left_counts
 left_length ks = length-map (nodes_of ks) (λ v. v.middle - v.first) ∙ length-map (extents_of ks) (node_of ks)
 
-skip_length : (ks : List Bits) → length (skips ks) ≡ length (extents_of ks)
+pub skip_length : (ks : List Bits) → length (skips ks) ≡ length (extents_of ks)
 unfolding skips
 skip_length ks = length-map (extents_of ks) (λ e. length e - name_len (extents_of ks) e)
 
@@ -121,7 +121,7 @@ section_few numbers few each =
 
 -- ---- sections
 
-held_few : (numbers : List ℕ) (s : SectionBuf) → section_built s ≡ sums_list numbers → IsWhole s → length numbers ≤ 4194304 → Each (λ x. x ≤ 2 ^ 32) numbers → length (held_words s) ≤ 2 ^ 24 + 2
+pub held_few : (numbers : List ℕ) (s : SectionBuf) → section_built s ≡ sums_list numbers → IsWhole s → length numbers ≤ 4194304 → Each (λ x. x ≤ 2 ^ 32) numbers → length (held_words s) ≤ 2 ^ 24 + 2
 held_few numbers s built whole few each =
     let same : length (held_words s) ≡ length (section_words (sums_list numbers)) = ap (λ (ws : List ℕ). length ws) (section_laid s whole ∙ ap section_words built) in
     let less = section_few numbers few each in

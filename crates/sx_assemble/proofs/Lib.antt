@@ -7,6 +7,7 @@ pub mod KeyPairs
 pub mod KeyParts
 pub mod KeySizes
 pub mod HollowDumps
+pub mod HollowDistDumps
 pub mod Lcp2Dumps
 pub mod LcpDumps
 pub mod NarrowValues

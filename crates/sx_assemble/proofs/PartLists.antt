@@ -53,6 +53,21 @@ module _ (method : Method) (width : ℕ) (entries : List Entry) (f : FuncBuf) (d
   pub fits : CellsFit (function_of f)
   fits = subst (λ (w : ℕ). AllByRecursion (λ v. v < 2 ^ w) f.cells.items) (sym done.built.width) done.cells
 
+  table_length : (s : ℕ) (cs : List Chunk) → length (table_words s cs) ≡ length cs + 1
+  table_length s [] = refl
+  table_length s (c ∷ cs) = let rest = table_length (s + 3 * c.segment) cs in omega arith
+
+  -- its words are at most as many as its cells and its chunks, and two more
+  some_words : width ≤ 64 → length (held_words (Function f)) ≤ cell_count (function_of f).chunks + length (function_of f).chunks + 3
+  some_words narrow =
+      let table : length f.table.items ≡ length (function_of f).chunks + 1 = ap (λ (l : List ℕ). length l) done.table ∙ table_length 0 (function_of f).chunks in
+      let all : length f.cells.items ≡ cell_count (function_of f).chunks = done.built.cells in
+      let a : length (packed f.cells.width f.cells.items) ≡ words_for (length f.cells.items * f.cells.width) = packed_fields_are_read_back.words f.cells.width f.cells.items in
+      let thin : f.cells.width ≤ 64 = subst (λ (w : ℕ). w ≤ 64) (sym done.cell_width) narrow in
+      let b = words_le (length f.cells.items) f.cells.width thin in
+      let both = length-append f.table.items (packed f.cells.width f.cells.items) in
+      omega arith
+
   module _ (few : length entries ≤ 4194304) where
     few_chunks : chunk_count (length entries) ≤ 4096
     few_chunks = pow_mono (chunk_bits_le (length entries) 12 few)
@@ -61,27 +76,20 @@ module _ (method : Method) (width : ℕ) (entries : List Entry) (f : FuncBuf) (d
     pub cells_counted : cell_count (function_of f).chunks ≤ u32_max
     cells_counted = let k = few_chunks in let (chunks, cells) = counts in omega arith
 
-    table_length : (s : ℕ) (cs : List Chunk) → length (table_words s cs) ≡ length cs + 1
-    table_length s [] = refl
-    table_length s (c ∷ cs) = let rest = table_length (s + 3 * c.segment) cs in omega arith
-
     -- and few words
-    words_few : width ≤ 64 → length f.table.items + length (packed f.cells.width f.cells.items) ≤ 2 ^ 24
-    words_few narrow =
-        let k = few_chunks in
-        let (chunks, cells) = counts in
-        let table : length f.table.items ≡ length (function_of f).chunks + 1 = ap (λ (l : List ℕ). length l) done.table ∙ table_length 0 (function_of f).chunks in
-        let all : length f.cells.items ≡ cell_count (function_of f).chunks = done.built.cells in
-        let a : length (packed f.cells.width f.cells.items) ≡ words_for (length f.cells.items * f.cells.width) = packed_fields_are_read_back.words f.cells.width f.cells.items in
-        let thin : f.cells.width ≤ 64 = subst (λ (w : ℕ). w ≤ 64) (sym done.cell_width) narrow in
-        let b = words_le (length f.cells.items) f.cells.width thin in
-        omega arith
-
     pub function_few : width ≤ 64 → length (held_words (Function f)) ≤ 2 ^ 24 + 2
-    function_few narrow =
-        let few = words_few narrow in
-        let both = length-append f.table.items (packed f.cells.width f.cells.items) in
-        omega arith
+    function_few narrow = let k = few_chunks in let (chunks, cells) = counts in let words = some_words narrow in omega arith
+
+  -- the same for twice as many pairs
+  module _ (twice : length entries ≤ 8388608) where
+    twice_chunks : chunk_count (length entries) ≤ 8192
+    twice_chunks = pow_mono (chunk_bits_le (length entries) 13 twice)
+
+    pub twice_cells : cell_count (function_of f).chunks ≤ u32_max
+    twice_cells = let k = twice_chunks in let (chunks, cells) = counts in omega arith
+
+    pub twice_words : width ≤ 64 → length (held_words (Function f)) ≤ 2 ^ 24 + 2 ^ 16
+    twice_words narrow = let k = twice_chunks in let (chunks, cells) = counts in let words = some_words narrow in omega arith
 
 -- ---- all parts
 

@@ -19,6 +19,14 @@ use sx_ef::view::EliasFano;
 use sx_hollow::{HollowLists, hollow_lists};
 use sx_sig::Plan;
 
+/// The sections of the sums of a trie's lists: of the counts of leaves, and of the bits that are
+/// skipped.
+#[derive(Drop)]
+pub(crate) struct TrieSums {
+    pub(crate) left: SectionBuf,
+    pub(crate) skip: SectionBuf,
+}
+
 /// The lists of the trie of all keys.
 fn key_lists(alloc: Global, keys: &KeyList) -> Result<HollowLists, AllocError>
     ensures left { IfOk result (λ h. h.left.items ≡ left_counts (map key_bits keys.now.lines)) }
@@ -54,14 +62,26 @@ fn sums_section(alloc: Global, numbers: &[u32]) -> Result<SectionBuf, AllocError
     Ok(SectionBuf::Sums(EliasFano::encode(alloc, &sums)?))
 }
 
-/// The sections of the kind `hollow`. The trie and each list of sums are gone when the next list of
-/// sums is made.
+/// The sections of the sums of a trie's lists. The first sums are gone when the next are made.
+pub(crate) fn trie_sums(alloc: Global, lists: &HollowLists) -> Result<TrieSums, AllocError>
+    requires left { length lists.now.left.items ≤ 4194304 }
+    requires skip { length lists.now.skip.items ≤ 4194304 }
+    ensures left { IfOk result (λ s. section_built s.left ≡ sums_list lists.now.left.items) }
+    ensures skip { IfOk result (λ s. section_built s.skip ≡ sums_list lists.now.skip.items) }
+    ensures whole_left { IfOk result (λ s. IsWhole s.left) }
+    ensures whole_skip { IfOk result (λ s. IsWhole s.skip) }
+{
+    let left = sums_section(alloc, &lists.left)?;
+    let skip = sums_section(alloc, &lists.skip)?;
+    Ok(TrieSums { left, skip })
+}
+
+/// The sections of the kind `hollow`. The trie is gone when the sums are made.
 fn hollow_sections(alloc: Global, keys: &KeyList) -> Result<Vec<SectionBuf>, AllocError>
     ensures { IfOk result (λ s. AreHollow keys.now.lines s.items) }
 {
     let lists = key_lists(alloc, keys)?;
-    let left = sums_section(alloc, &lists.left)?;
-    let skip = sums_section(alloc, &lists.skip)?;
+    let TrieSums { left, skip } = trie_sums(alloc, &lists)?;
     Ok(vec![in alloc; left, skip]?)
 }
 

@@ -24,7 +24,11 @@ use sx_sig::{Method, Plan, Signature};
 use sx_static::FuncBuf;
 
 /// The function of part 0, which gives each key its offset in its block.
-fn offsets_function(alloc: Global, sigs: &[Signature], plan: &Plan) -> Result<FuncBuf, Stop>
+pub(crate) fn offsets_function(
+    alloc: Global,
+    sigs: &[Signature],
+    plan: &Plan,
+) -> Result<FuncBuf, Stop>
     requires bucket { plan.now.log_bucket ≤ 12 }
     requires few { length sigs.now ≤ 2 ^ 27 }
     ensures built { let b = block_size plan.now.log_bucket in

@@ -11,6 +11,7 @@ ghost use Rattle.sx_assemble.specs.Sectioning.{AreLaidOut, IsFinished, header_fo
 
 mod func;
 mod hollow;
+mod hollow_dist;
 mod layout;
 mod lcp;
 mod lcp2;
@@ -21,6 +22,7 @@ mod signed;
 
 use func::assemble_func;
 use hollow::assemble_hollow;
+use hollow_dist::assemble_hollow_dist;
 use layout::{SectionBuf, dump_words};
 use lcp::assemble_lcp;
 use lcp2::assemble_lcp2;
@@ -116,7 +118,8 @@ pub fn assemble<L: Ledger>(
         Kind::Lcp => assemble_lcp(alloc, keys, plan, seed),
         Kind::Lcp2 => assemble_lcp2(alloc, keys, plan, seed),
         Kind::Hollow => assemble_hollow(alloc, keys, plan, seed),
-        Kind::HollowDist | Kind::Zfast => unreachable!(),
+        Kind::HollowDist => assemble_hollow_dist(alloc, keys, plan, seed),
+        Kind::Zfast => unreachable!(),
     }
 }
 

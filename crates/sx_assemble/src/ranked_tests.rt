@@ -6,7 +6,7 @@ ghost use Rattle.sx_spec_program.specs.Program.{IsOfferedPlan};
 
 use crate::Assembled;
 use crate::numbers::numbers_to;
-use crate::tests::{assembled_under, keys_of};
+use crate::tests::{assembled_under, keys_of, twins_in};
 use std::marker::Brand;
 use std::process::Abort;
 use std::sync::ledger::Blank;
@@ -50,14 +50,21 @@ fn signed_plan(kind: Kind, signed: u32) -> Plan
     plan
 }
 
-/// The words of the dump of the keys with their numbers, for which seed 0 works.
-fn ranked(rt: &(impl Abort + AllocGlobal), plan: &Plan, lines: &[&[u8]]) -> Result<Vec<u64>, Fail>
+/// What the keys with their numbers come to with seed 0.
+fn numbered(rt: &(impl Abort + AllocGlobal), plan: &Plan, lines: &[&[u8]]) -> Result<Assembled, Fail>
     requires { IsOfferedPlan plan.now }
 {
     let keys = keys_of(rt, lines)?;
     let values = numbers_to(rt.alloc(), keys.len())?;
     let blank = Blank::new(1);
-    let words = match assembled_under::<Brand>(rt.alloc(), &keys, &values, plan, blank)? {
+    Ok(assembled_under::<Brand>(rt.alloc(), &keys, &values, plan, blank)?)
+}
+
+/// The words of their dump, for which seed 0 works.
+fn ranked(rt: &(impl Abort + AllocGlobal), plan: &Plan, lines: &[&[u8]]) -> Result<Vec<u64>, Fail>
+    requires { IsOfferedPlan plan.now }
+{
+    let words = match numbered(rt, plan, lines)? {
         Assembled::Words(words) => Some(words),
         Assembled::SeedFailed(_) => None,
     };
@@ -119,6 +126,39 @@ fn sums_of_a_trie(rt: HostRuntime) -> Result<(), Fail> {
     Ok(())
 }
 
+#[test]
+fn turns_of_a_trie(rt: HostRuntime) -> Result<(), Fail> {
+    let words = ranked(&rt, &plan_of(Kind::HollowDist, 0), &[b"a", b"b", b"c", b"d"])?;
+    assert_eq!(rt; (words.get(2), words.get(4)), (Some(&4), Some(&4)));
+    assert_eq!(rt; head_at(&words, 10), Some((0, 4)));
+    // the sums are 0 1 2 and 0 6 6
+    assert_eq!(rt; words.get(14..21), Some([3, 3, 21, 3, 7, 0, 49].as_slice()));
+    // two pairs of the root, one of the other node and three of leaves
+    assert_eq!(rt; head_at(&words, 21), Some((2, 6)));
+    assert_eq!(rt; words.len(), 26);
+    // one block: no delimiters, and no pairs
+    let words = ranked(&rt, &plan_of(Kind::HollowDist, 5), &[b"a", b"b"])?;
+    assert_eq!(rt; head_at(&words, 10), Some((1, 2)));
+    assert_eq!(rt; words.get(15..), Some([1, 1, 1, 1, 1, 1, 0, 0, 0, 0].as_slice()));
+    let words = ranked(&rt, &plan_of(Kind::HollowDist, 0), &[])?;
+    assert_eq!(rt; words.len(), 24);
+    assert_eq!(rt; words.get(10..14), Some([0, 0, 0, 0].as_slice()));
+    assert_eq!(rt; words.get(14..), Some([1, 1, 1, 1, 1, 1, 0, 0, 0, 0].as_slice()));
+    Ok(())
+}
+
+#[test]
+fn twins_of_the_first_part(rt: HostRuntime) -> Result<(), Fail> {
+    let mut plan = plan_of(Kind::HollowDist, 0);
+    plan.sig_bits = 0;
+    let twins = match numbered(&rt, &plan, &[b"a", b"b", b"c"])? {
+        Assembled::SeedFailed(fault) => twins_in(fault),
+        Assembled::Words(_) => None,
+    };
+    assert_eq!(rt; twins, Some((0, 0, 1)));
+    Ok(())
+}
+
 // three numbers of 64 bits: the last words of the signatures of a, b and c with seed 0
 const KEPT: [u64; 5] = [
     3,
@@ -145,6 +185,8 @@ fn signatures_behind_functions(rt: HostRuntime) -> Result<(), Fail> {
     let words = ranked(&rt, &signed_plan(Kind::Lcp, 64), &[b"a", b"b", b"c"])?;
     assert!(rt; words.ends_with(&KEPT));
     let words = ranked(&rt, &signed_plan(Kind::Lcp2, 64), &[b"a", b"b", b"c"])?;
+    assert!(rt; words.ends_with(&KEPT));
+    let words = ranked(&rt, &signed_plan(Kind::HollowDist, 64), &[b"a", b"b", b"c"])?;
     assert!(rt; words.ends_with(&KEPT));
     Ok(())
 }

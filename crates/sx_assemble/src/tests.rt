@@ -81,7 +81,7 @@ fn words_with(
 }
 
 /// The part and the numbers of twins.
-fn twins_in(fault: PartFault) -> Option<(u32, u32, u32)> {
+pub(crate) fn twins_in(fault: PartFault) -> Option<(u32, u32, u32)> {
     let PartFault { part, cause } = fault;
     match cause {
         PartCause::Twins { first, second } => Some((part, first, second)),

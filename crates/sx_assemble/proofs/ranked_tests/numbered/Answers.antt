@@ -1,6 +1,6 @@
 use Rattle.std.proofs.Common.{◌∙◌, List, length, ap}
 use Rattle.std.proofs.lemmas.List.FromFn.{length-range_with_len}
-use Rattle.sx_assemble.proofs.ranked_tests.ranked.Goals as goal
+use Rattle.sx_assemble.proofs.ranked_tests.numbered.Goals as goal
 
 pub assembled_under-requires-clause-values : goal.assembled_under-requires-clause-values
 assembled_under-requires-clause-values g c =
