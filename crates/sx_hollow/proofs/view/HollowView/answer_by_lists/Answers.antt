@@ -1,4 +1,4 @@
-use Rattle.std.proofs.Common.{◌≡◌, ◌+◌, ◌-◌, ◌<◌, length, sym, subst, ◌∙◌, arith, inl, inr}
+use Rattle.std.proofs.Common.{◌+◌, ◌-◌, ◌<◌, length, sym, subst, ◌∙◌, arith, inl, inr}
 use Rattle.std.proofs.lemmas.Bool.{cases_eq}
 use Rattle.sx_spec.specs.Reply.{gaps}
 use Rattle.sx_spec_kinds.specs.Hollow.{goes, lost}
