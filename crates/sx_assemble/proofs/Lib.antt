@@ -11,3 +11,4 @@ pub mod Lcp2Dumps
 pub mod LcpDumps
 pub mod NarrowValues
 pub mod Signing
+pub mod KeyNumbers
