@@ -41,11 +41,7 @@ fn full_size(log_bucket: u32) -> u32
 }
 
 /// The numbers of the delimiters, which rise: those of the last keys of all blocks but the last.
-fn delimiter_numbers(
-    alloc: Global,
-    keys: &KeyList,
-    log_bucket: u32,
-) -> Result<Vec<u32>, AllocError>
+fn delimiter_numbers(alloc: Global, keys: &KeyList, log_bucket: u32) -> Result<Vec<u32>, AllocError>
     requires { log_bucket ≤ 12 }
     ensures rising { IfOk result (λ numbers. AreRising keys.now.lines numbers.items) }
     ensures bits { IfOk result (λ numbers. delimiter_bits keys.now.lines numbers.items

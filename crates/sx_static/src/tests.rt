@@ -95,6 +95,19 @@ fn answer(table: &[u64], words: &[u64], sig: &Signature) -> Option<u64> {
     Some(a ^ b ^ c)
 }
 
+/// What a build of values of any width comes to.
+fn built(
+    alloc: Global,
+    sigs: &[Signature],
+    values: &[u64],
+    method: Method,
+) -> Result<Built, AllocError>
+    requires values { length values.now ≡ length sigs.now }
+    requires few { length sigs.now ≤ 2 ^ 27 }
+{
+    build(alloc, sigs, values, 64, method)
+}
+
 /// Whether a build has two chunks and answers each signature with its value.
 fn two_chunks_answer(
     alloc: Global,
@@ -105,7 +118,7 @@ fn two_chunks_answer(
     requires values { length values.now ≡ length sigs.now }
     requires few { length sigs.now ≤ 2 ^ 27 }
 {
-    match build(alloc, sigs, values, 64, method)? {
+    match built(alloc, sigs, values, method)? {
         Built::Done(function) => {
             let mut right = function.table.len() == 3;
             for (sig, value) in sigs.iter().zip(values.iter()) {
@@ -138,5 +151,100 @@ fn mixed_chunks_answer(alloc: Global, method: Method) -> Result<bool, AllocError
 fn two_chunks_answer_their_values(rt: HostRuntime) -> Result<(), Fail> {
     assert!(rt; mixed_chunks_answer(rt.alloc(), Method::Mwhc)?);
     assert!(rt; mixed_chunks_answer(rt.alloc(), Method::Gov3)?);
+    Ok(())
+}
+
+/// The signature of a number in the later of two chunks.
+fn later(n: u64) -> Signature {
+    Signature {
+        w0: mixed(n) | 1 << 63,
+        w1: mixed(n.wrapping_add(2000)),
+        w2: mixed(n.wrapping_add(4000)),
+    }
+}
+
+/// What a build of two chunks comes to. In the first, 600 edges share two of their vertices and have 248 to differ in. In the
+/// second, signatures come again after so many.
+fn crowded(alloc: Global, period: u64) -> Result<Built, AllocError>
+    requires { 1 ≤ period }
+{
+    let mut sigs = Vec::new(alloc);
+    let mut values = Vec::new(alloc);
+    for n in 0..600 {
+        sigs.push(signature(n))?;
+        values.push(n)?;
+    }
+    for n in 0..600 {
+        sigs.push(later(n % period))?;
+        values.push(n)?;
+    }
+    if sigs.len() != 1200 || values.len() != 1200 {
+        return Ok(Built::Twins {
+            first: 0,
+            second: 0,
+        });
+    }
+    built(alloc, &sigs, &values, Method::Mwhc)
+}
+
+#[test]
+fn equal_signatures_of_a_later_chunk_are_told(rt: HostRuntime) -> Result<(), Fail> {
+    match crowded(rt.alloc(), 599)? {
+        Built::Twins { first, second } => assert_eq!(rt; (first, second), (600, 1199)),
+        Built::Done(_) | Built::Stuck { .. } => assert!(rt; false, "no twins"),
+    }
+    match crowded(rt.alloc(), 600)? {
+        Built::Stuck { chunk, witnesses } => assert_eq!(rt; (chunk, witnesses.len()), (0, 64)),
+        Built::Done(_) | Built::Twins { .. } => assert!(rt; false, "no chunk"),
+    }
+    Ok(())
+}
+
+/// Whether a build gave this function.
+fn is_function(built: &Built, function: &FuncBuf) -> bool {
+    match built {
+        Built::Done(alone) => {
+            alone.table.as_slice() == function.table.as_slice()
+                && alone.cells.words() == function.cells.words()
+                && alone.width == function.width
+                && alone.pairs == function.pairs
+        }
+        Built::Twins { .. } | Built::Stuck { .. } => false,
+    }
+}
+
+/// Whether these are functions as they are built alone.
+fn are_alone(alloc: Global, low: &FuncBuf, high: &FuncBuf) -> Result<bool, AllocError> {
+    let sigs = [later(1), later(2), later(3)];
+    let first = build(alloc, &sigs, &[2, 4, 7], 3, Method::Mwhc)?;
+    let second = build(alloc, &sigs, &[1, 3, 5], 3, Method::Mwhc)?;
+    Ok(is_function(&first, low) && is_function(&second, high))
+}
+
+/// Builds two functions of three signatures, whose numbers have three octal digits: of each number one function has the last
+/// and one the first.
+fn three_at_once(alloc: Global) -> Result<Both, AllocError> {
+    let sigs = [later(1), later(2), later(3)];
+    build_both(alloc, &sigs, &[0o102, 0o364, 0o517], 3, 6, 3)
+}
+
+#[test]
+fn both_are_as_built_alone(rt: HostRuntime) -> Result<(), Fail> {
+    let both = three_at_once(rt.alloc())?;
+    let alone = match &both {
+        Both::Done { low, high } => are_alone(rt.alloc(), low, high)?,
+        Both::Twins { .. } | Both::Stuck { .. } => false,
+    };
+    assert!(rt; alone);
+    Ok(())
+}
+
+#[test]
+fn equal_signatures_have_neither(rt: HostRuntime) -> Result<(), Fail> {
+    let sigs = [later(7), later(5), later(5)];
+    match build_both(rt.alloc(), &sigs, &[1, 2, 3], 1, 1, 1)? {
+        Both::Twins { first, second } => assert_eq!(rt; (first, second), (1, 2)),
+        Both::Done { .. } | Both::Stuck { .. } => assert!(rt; false, "no twins"),
+    }
     Ok(())
 }
