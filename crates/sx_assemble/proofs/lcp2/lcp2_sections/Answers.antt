@@ -282,7 +282,7 @@ table_list-requires-clause-fit c =
 
 pub with_signatures-requires-clause-few : goal.with_signatures-requires-clause-few
 with_signatures-requires-clause-few c =
-    let few = few_signatures c.args.keys.now c.sign_keys.ensures.keys c.args.seed c.args.plan.now.sig_bits c.deref-10.result.now (c.deref-10.ensures.value ∙ c.in_ok-sigs.ensures.signed) in
+    let few = few_signatures c.args.keys.now c.sign_keys.ensures.keys c.args.seed c.args.plan.now.sig_bits c.deref-9.result.now (c.deref-9.ensures.value ∙ c.in_ok-sigs.ensures.signed) in
     omega arith
 
 pub returns : goal.returns
@@ -322,4 +322,4 @@ returns c =
     (lcp2_done plan lines seed c.requires offsets offsets_done codes codes_done escaped escaped_done c.in_ok-prefixes.prefixes table c.in_ok-prefixes.ensures.built few narrow_offsets
     (codes_part_narrow plan list seed sigs lens t signed lengths two keys c.requires.buckets) c.in_ok-escaped.ensures.narrow c.in_ok-prefixes.ensures.narrow (wide ∙ ap width_of lengths) (listed ∙ table_is plan list seed sigs lens t signed lengths two) (omega arith) (omega arith)) in
     all_sections Lcp2 plan lines seed parts c.requires.kind c.in_ok-sections.sections.items c.in_ok-with_signatures.field-0.items own
-    few c.requires.signed c.deref-10.result.now (c.deref-10.ensures.value ∙ signed) c.in_ok-with_signatures.ensures
+    few c.requires.signed c.deref-9.result.now (c.deref-9.ensures.value ∙ signed) c.in_ok-with_signatures.ensures
