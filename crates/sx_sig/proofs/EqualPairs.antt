@@ -1,5 +1,5 @@
 -- Pairs of equal signatures: as neighbours of a list in order, and as twins.
-use Rattle.std.proofs.Common.{◌≡◌, ℕ, zero, suc, ◌+◌, ◌-◌, ◌<◌, ◌≤◌, ◌⊎◌, Bool, true, false, List, [], length, map, take, refl, sym, ap, subst, ◌∙◌, arith, inl, inr, get_or, All, Option, Some}
+use Rattle.std.proofs.Common.{◌≡◌, ℕ, zero, suc, ◌+◌, ◌-◌, ◌<◌, ◌≤◌, ◌⊎◌, Bool, true, false, List, [], length, map, take, refl, sym, ap, subst, ◌∙◌, arith, inl, inr, get_or, All, Option, Some, Vec}
 use Rattle.std.specs.Prelude.{◌==◌, ◌&&◌, Contains, IsSomeAnd, slice_get}
 use Rattle.std.proofs.lemmas.Option.{slice_get-get_or}
 use Rattle.std.specs.Cmp.{IsTotalOrder, IsStrictWeakOrder, nat_cmp_total, then_total, on_total, tied_itself, ranks}
@@ -16,9 +16,9 @@ use Rattle.std.proofs.lemmas.List.FromFn.{get_or-map-range_with_len}
 use Rattle.sx_spec.specs.declared.Signature.{Signature}
 use Rattle.sx_spec.specs.Chunks.{chunk_of}
 use Rattle.sx_spec.specs.StaticFunction.{AllDiffer, AreTwins}
-use Rattle.sx_sig.specs.declared.grouping.Pair.{Pair}
-use Rattle.sx_sig.specs.Grouping.{IsFound, Follows, IsLeastFound, IsNeighbour, StandTogether, chunk_numbers, numbered, sig_at}
-use Rattle.sx_sig.proofs.Groups.{number_in, lists_count}
+use Rattle.sx_sig.specs.declared.grouping.Twins.{Twins}
+use Rattle.sx_sig.specs.Grouping.{IsFound, Follows, GathersEqual, IsLeastFound, IsNeighbour, StandTogether, chunk_numbers, numbered, sig_at}
+use Rattle.sx_sig.proofs.Groups.{number_in, number_below, lists_count}
 
 -- ---- the order of signatures with their numbers
 
@@ -176,9 +176,9 @@ module _ (ordered : List (Signature × ℕ)) (place : ℕ) (left right : Signatu
         | inr here ↦ least first second (follows_here first second n (omega arith))
       ]
 
-  pub either_here : (start old new : Pair) → (new ≡ old) ⊎ Follows left right new.first new.second → (old ≡ start) ⊎ IsNeighbour ordered old.first old.second → (new ≡ start) ⊎ IsNeighbour ordered new.first new.second
+  pub either_here : (start old new : Twins) → (new ≡ old) ⊎ Follows left right new.first new.second → (old ≡ start) ⊎ IsNeighbour ordered old.first old.second → (new ≡ start) ⊎ IsNeighbour ordered new.first new.second
   either_here start old new (inl same) (inl none) = inl (same ∙ none)
-  either_here start old new (inl same) (inr found) = inr (subst (λ (p : Pair). IsNeighbour ordered p.first p.second) (sym same) found)
+  either_here start old new (inl same) (inr found) = inr (subst (λ (p : Twins). IsNeighbour ordered p.first p.second) (sym same) found)
   either_here start old new (inr f) so_far = inr (neighbour_here new.first new.second f)
 
 -- ---- one list more
@@ -221,9 +221,9 @@ least_more sigs lists x numbers filled ordered old new lt is are moved sorted le
           least a j found
     ]
 
-pub found_more : (sigs : List Signature) (numbers : List ℕ) (filled ordered : List (Signature × ℕ)) (old new : Pair) → filled ≡ map (numbered sigs) numbers → IsPermutation filled ordered
+pub found_more : (sigs : List Signature) (numbers : List ℕ) (filled ordered : List (Signature × ℕ)) (old new : Twins) → filled ≡ map (numbered sigs) numbers → IsPermutation filled ordered
     → (new ≡ old) ⊎ IsNeighbour ordered new.first new.second → IsFound sigs old.first old.second → IsFound sigs new.first new.second
-found_more sigs numbers filled ordered old new are moved (inl same) so_far within = subst (λ (p : Pair). IsFound sigs p.first p.second) (sym same) so_far within
+found_more sigs numbers filled ordered old new are moved (inl same) so_far within = subst (λ (p : Twins). IsFound sigs p.first p.second) (sym same) so_far within
 found_more sigs numbers filled ordered old new are moved (inr n) so_far within =
     let P : Signature × ℕ → Type 0 = λ e. e.0 ≡ sig_at sigs e.1 in
     let here : All P (map (numbered sigs) numbers) = All-map P (numbered sigs) numbers (λ k d lt. refl) in
@@ -235,24 +235,40 @@ found_more sigs numbers filled ordered old new are moved (inr n) so_far within =
 
 -- ---- all lists
 
--- equal signatures stand in one list
-pub least_of_all : (c n : ℕ) (sigs : List Signature) (lists : List (List ℕ)) (second : ℕ) → lists ≡ map (chunk_numbers c sigs) (range_with_len 0 n) → All (λ sig. chunk_of sig c < n) sigs → IsLeastFound sigs lists second
+-- equal signatures stand in the list of their chunk
+pub gathers : (c n : ℕ) (sigs : List Signature) (lists : List (List ℕ)) → lists ≡ map (chunk_numbers c sigs) (range_with_len 0 n) → All (λ sig. chunk_of sig c < n) sigs → GathersEqual sigs lists
+gathers c n sigs lists are within = record {
+  inside = λ k d lt.
+      let count = lists_count c n sigs lists are in
+      let list : chunk_numbers c sigs k ≡ get_or lists k d = sym (ap (λ (l : List (List ℕ)). get_or l k d) are ∙ get_or-map-range_with_len (chunk_numbers c sigs) 0 n k k d (omega arith) (omega arith)) in
+      let P : List ℕ → Type 0 = λ l. All (λ m. m < length sigs) l in
+      subst P list (number_below c sigs k);
+  together = λ i j less inside same.
+      let d : Signature = record { w0 = 0; w1 = 0; w2 = 0 } in
+      let k = chunk_of (sig_at sigs i) c in
+      let lt : k < n = within i d (omega arith) in
+      let count = lists_count c n sigs lists are in
+      let list : get_or lists k [] ≡ chunk_numbers c sigs k = ap (λ (l : List (List ℕ)). get_or l k []) are ∙ get_or-map-range_with_len (chunk_numbers c sigs) 0 n k k [] lt (omega arith) in
+      let P : ℕ → List ℕ → Type 0 = λ m l. Contains l m in
+      record {
+        list = k;
+        within = omega arith;
+        first = subst (P i) (sym list) (number_in c sigs i k d (omega arith) refl);
+        second = subst (P j) (sym list) (number_in c sigs j k d inside (ap (λ s. chunk_of s c) (sym same)));
+      };
+}
+
+-- each of the lists
+pub inside_each : {W : Type 0} (sigs : List Signature) (lists : List (Vec ℕ W)) → All (λ l. All (λ n. n < length sigs) l) (map (λ u. u.items) lists) → All (λ v. All (λ n. n < length sigs) v.items) lists
+inside_each {W} sigs lists all k d lt =
+    let items : Vec ℕ W → List ℕ = λ u. u.items in
+    let many : length (map items lists) ≡ length lists = length-map lists items in
+    let P : List ℕ → Type 0 = λ l. All (λ m. m < length sigs) l in
+    subst P (get_or-map items lists k d [] lt) (all k [] (omega arith))
+
+pub least_of_all : (sigs : List Signature) (lists : List (List ℕ)) (second : ℕ) → GathersEqual sigs lists → IsLeastFound sigs lists second
     → (i j : ℕ) → i < j → j < length sigs → sig_at sigs i ≡ sig_at sigs j → second ≤ j
-least_of_all c n sigs lists second are within least i j less inside same =
-    let d : Signature = record { w0 = 0; w1 = 0; w2 = 0 } in
-    let k = chunk_of (sig_at sigs i) c in
-    let lt : k < n = within i d (omega arith) in
-    let count = lists_count c n sigs lists are in
-    let list : get_or lists k [] ≡ chunk_numbers c sigs k = ap (λ (l : List (List ℕ)). get_or l k []) are ∙ get_or-map-range_with_len (chunk_numbers c sigs) 0 n k k [] lt (omega arith) in
-    let P : ℕ → List ℕ → Type 0 = λ m l. Contains l m in
-    least i j
-    (record {
-      list = k;
-      within = omega arith;
-      first = subst (P i) (sym list) (number_in c sigs i k d (omega arith) refl);
-      second = subst (P j) (sym list) (number_in c sigs j k d inside (ap (λ s. chunk_of s c) (sym same)));
-    })
-    less same
+least_of_all sigs lists second gathered least i j less inside same = least i j (gathered.together i j less inside same) less same
 
 -- signatures at any default
 sig_at_is : (sigs : List Signature) (i : ℕ) (d : Signature) → i < length sigs → get_or sigs i d ≡ sig_at sigs i

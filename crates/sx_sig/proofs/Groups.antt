@@ -3,7 +3,7 @@ use Rattle.std.proofs.Common.{◌≡◌, ◌≢◌, ℕ, zero, suc, ◌+◌, ◌
 use Rattle.std.specs.Prelude.{◌==◌, filter}
 use Rattle.std.specs.List.{enumerate_from, range_with_len}
 use Rattle.std.proofs.lemmas.Bool.{cases_eq, eq-eqb, ne_eqb}
-use Rattle.std.proofs.lemmas.List.{append-nil, map-append, map-set, get_or-map, length-take-le, length-set, length-map, take_more, get_or-set_same, get_or-set_other, ext_get_or}
+use Rattle.std.proofs.lemmas.List.{append-nil, map-append, map-set, get_or-map, length-take-le, length-set, take_more, get_or-set_same, get_or-set_other, ext_get_or}
 use Rattle.std.proofs.lemmas.List.Elements.{filter-append, All-map, All-filter}
 use Rattle.std.proofs.lemmas.List.FromFn.{get_or-map-range_with_len, length-map-range_with_len, length-enumerate_from, get_or-enumerate_from}
 use Rattle.sx_spec.specs.declared.Signature.{Signature}
@@ -134,18 +134,6 @@ number_below c sigs j =
     let test : ℕ × Signature → Bool = λ p. chunk_of p.1 c == j in
     let all : All Q (enumerate_from 0 sigs) = λ k d lt. (let e = ap (λ (p : ℕ × Signature). p.0) (get_or-enumerate_from 0 sigs k d (let g = length-enumerate_from 0 sigs in omega arith)) in let g = length-enumerate_from 0 sigs in omega arith) in
     All-map P (λ (p : ℕ × Signature). p.0) (filter test (enumerate_from 0 sigs)) (All-filter test Q (enumerate_from 0 sigs) all)
-
--- each of the lists
-pub numbers_inside : {W : Type 0} (c n : ℕ) (sigs : List Signature) (lists : List (Vec ℕ W)) → map (λ u. u.items) lists ≡ map (chunk_numbers c sigs) (range_with_len 0 n) → All (λ v. All (λ k. k < length sigs) v.items) lists
-numbers_inside {W} c n sigs lists are k d lt =
-    let items : Vec ℕ W → List ℕ = λ u. u.items in
-    let a : length (map items lists) ≡ length lists = length-map lists items in
-    let b : length (map (chunk_numbers c sigs) (range_with_len 0 n)) ≡ n = length-map-range_with_len (chunk_numbers c sigs) 0 n in
-    let e = ap (λ (l : List (List ℕ)). length l) are in
-    let same : chunk_numbers c sigs k ≡ items (get_or lists k d) =
-    sym (get_or-map-range_with_len (chunk_numbers c sigs) 0 n k k [] (omega arith) (omega arith)) ∙ ap (λ (l : List (List ℕ)). get_or l k []) (sym are) ∙ get_or-map items lists k d [] lt in
-    let P : List ℕ → Type 0 = λ l. All (λ m. m < length sigs) l in
-    subst P same (number_below c sigs k)
 
 -- so many lists
 pub lists_count : (c n : ℕ) (sigs : List Signature) (lists : List (List ℕ)) → lists ≡ map (chunk_numbers c sigs) (range_with_len 0 n) → length lists ≡ n

@@ -1,20 +1,12 @@
 -- The numbers of signatures by chunk, and pairs of equal signatures.
-use Rattle.std.specs.Prelude.{◌≡◌, ℕ, ◌+◌, ◌^◌, ◌<◌, ◌≤◌, ◌==◌, List, [], length, map, filter, Contains, slice_index_or}
-use Rattle.std.specs.List.{enumerate_from, range_with_len}
+use Rattle.std.specs.Prelude.{◌≡◌, ℕ, ◌+◌, ◌<◌, ◌≤◌, ◌==◌, List, [], length, map, filter, All, Contains, slice_index_or}
+use Rattle.std.specs.List.{enumerate_from}
 use Rattle.sx_spec.specs.declared.Signature.{Signature}
 use Rattle.sx_spec.specs.Chunks.{chunk_of}
-use Rattle.sx_spec.specs.StaticFunction.{AllDiffer, AreTwins}
-use Rattle.sx_sig.specs.declared.grouping.Grouped.{Grouped}
-use Rattle.sx_sig.specs.declared.grouping.Grouped.TheVariants.{Twins, Chunks}
 
 -- the numbers of the signatures in chunk j of 2 ^ c
 abbrev pub chunk_numbers : ℕ → List Signature → ℕ → List ℕ
 chunk_numbers c sigs j = map (λ p. p.0) (filter (λ p. chunk_of p.1 c == j) (enumerate_from 0 sigs))
-
--- the first two equal signatures, or the numbers of each chunk's signatures
-abbrev pub IsGrouped : ℕ → List Signature → Grouped → Type 0
-IsGrouped c sigs (Twins first second) = AreTwins sigs first second
-IsGrouped c sigs (Chunks lists) = AllDiffer sigs × (map (λ v. v.items) lists.items ≡ map (chunk_numbers c sigs) (range_with_len 0 (2 ^ c)))
 
 -- ---- signatures by number, and pairs of equal ones
 
@@ -56,3 +48,8 @@ pub record StandTogether (lists : List (List ℕ)) (i j : ℕ) : Type 0 where
 -- no two equal signatures whose numbers stand in one list have a lesser second number
 abbrev pub IsLeastFound : List Signature → List (List ℕ) → ℕ → Type 0
 IsLeastFound sigs lists second = (i j : ℕ) → StandTogether lists i j → i < j → sig_at sigs i ≡ sig_at sigs j → second ≤ j
+
+-- the lists hold numbers of signatures, and those of equal ones stand in one list
+pub record GathersEqual (sigs : List Signature) (lists : List (List ℕ)) : Type 0 where
+  pub inside : All (λ numbers. All (λ n. n < length sigs) numbers) lists
+  pub together : (i j : ℕ) → i < j → j < length sigs → sig_at sigs i ≡ sig_at sigs j → StandTogether lists i j

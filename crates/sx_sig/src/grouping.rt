@@ -1,54 +1,81 @@
 //! The numbers of signatures by chunk, and equal signatures.
 
-ghost use Rattle.std.specs.Prelude.{◌≡◌, ◌⊎◌, ℕ, ◌+◌, ◌^◌, ◌<◌, ◌≤◌, All, IfOk, OnOk, [], ◌∷◌, ◌++◌, length, map, replicate, slice_index_or, slice_set};
+ghost use Rattle.std.specs.Prelude.{◌≡◌, ◌⊎◌, ℕ, ◌+◌, ◌^◌, ◌<◌, ◌≤◌, All, IfOk, MatchBool, MatchOption, OnOk, [], ◌∷◌, ◌++◌, length, map, replicate, slice_index_or, slice_set};
 ghost use Rattle.std.specs.List.{range_with_len};
 ghost use Rattle.sx_spec.specs.Chunks.{chunk_of as chunk_of_signature};
-ghost use Rattle.sx_sig.specs.Grouping.{IsGrouped, Follows, IsNeighbour, IsFound, IsLeastFound, chunk_numbers, numbered};
+ghost use Rattle.sx_spec.specs.StaticFunction.{AllDiffer, AreTwins};
+ghost use Rattle.sx_sig.specs.Grouping.{Follows, GathersEqual, IsNeighbour, IsFound, IsLeastFound, chunk_numbers, numbered};
 
 use crate::chunks::first_bits_of;
 use std::alloc::{AllocError, Global};
 use sx_spec::Signature;
 
-/// What grouping comes to.
-#[derive(Debug, Drop)]
-pub enum Grouped {
-    /// Two signatures are equal: `second` is the least number with an equal signature before it,
-    /// and `first` the least such.
-    Twins { first: u32, second: u32 },
-    /// All signatures differ. List `j` holds the numbers of those in chunk `j`, in rising order.
-    Chunks(Vec<Vec<u32>>),
+/// Two equal signatures, by their numbers.
+#[derive(Clone, Copy, PartialEq, Eq, Debug)]
+pub struct Twins {
+    /// The lesser number.
+    pub first: u32,
+    /// The greater number.
+    pub second: u32,
 }
 
 /// A signature with its number.
 type Numbered = (Signature, u32);
 
-/// Two equal signatures, by their numbers. Where none are known, `second` is the number of all.
-#[derive(Clone, Copy)]
-struct Pair {
-    first: u32,
-    second: u32,
-}
-
-/// Groups fewer than 2 to the power 32 signatures by their chunks among 2 to the power `c`, which
-/// is at most 32, or names the first two equal ones.
+/// The numbers of the signatures of each chunk, in rising order, for fewer than 2 to the power 32 signatures and 2 to the
+/// power `c` chunks, where `c` is at most 32. Equal signatures lie in one chunk.
 ///
 /// # Errors
 ///
 /// Want of memory.
-pub fn group(alloc: Global, sigs: &[Signature], c: u32) -> Result<Grouped, AllocError>
+pub fn chunks_of(alloc: Global, sigs: &[Signature], c: u32) -> Result<Vec<Vec<u32>>, AllocError>
     requires few { length sigs.now < 2 ^ 32 }
     requires bits { c ≤ 32 }
-    ensures { IfOk result (IsGrouped c sigs.now) }
+    ensures lists { IfOk result (λ v. map (λ u. u.items) v.items
+        ≡ map (chunk_numbers c sigs.now) (range_with_len 0 (2 ^ c))) }
+    ensures gathers { IfOk result (λ v. GathersEqual sigs.now (map (λ u. u.items) v.items)) }
 {
-    let chunks = chunks_of(alloc, sigs, c)?;
-    let found = least_pair(alloc, sigs, &chunks)?;
-    if (found.second as usize) < sigs.len() {
-        return Ok(Grouped::Twins {
-            first: found.first,
-            second: found.second,
-        });
+    let mut chunks = empty_lists(alloc, 1 << c, sigs.len() >> c)?;
+    for (number, sig) in sigs.iter().enumerate() {
+        put(&mut chunks, chunk_index(sig, c), number as u32)?;
     }
-    Ok(Grouped::Chunks(chunks))
+    Ok(chunks)
+}
+
+/// The first two equal ones of fewer than 2 to the power 32 signatures: `second` is the least number with an equal
+/// signature before it, and `first` the least such. Equal ones have their numbers in one of the lists, as those of chunks.
+///
+/// # Errors
+///
+/// Want of memory.
+pub fn first_twins(
+    alloc: Global,
+    sigs: &[Signature],
+    lists: &[Vec<u32>],
+) -> Result<Option<Twins>, AllocError>
+    requires few { length sigs.now < 2 ^ 32 }
+    requires gathers { GathersEqual sigs.now (map (λ u. u.items) lists.now) }
+    ensures { IfOk result (λ r. MatchOption r (AllDiffer sigs.now)
+        (λ twins. AreTwins sigs.now twins.first twins.second)) }
+{
+    let found = least_pair(alloc, sigs, lists)?;
+    if (found.second as usize) < sigs.len() {
+        return Ok(Some(found));
+    }
+    Ok(None)
+}
+
+/// Whether two of fewer than 2 to the power 32 signatures are equal.
+///
+/// # Errors
+///
+/// Want of memory.
+pub fn has_twins(alloc: Global, sigs: &[Signature]) -> Result<bool, AllocError>
+    requires few { length sigs.now < 2 ^ 32 }
+    ensures { IfOk result (λ r. MatchBool r (AllDiffer sigs.now → ⊥) (AllDiffer sigs.now)) }
+{
+    let all = chunks_of(alloc, sigs, 0)?;
+    Ok(first_twins(alloc, sigs, &all)?.is_some())
 }
 
 /// The chunk of a signature among 2 to the power `c`, as an index.
@@ -59,21 +86,6 @@ fn chunk_index(sig: &Signature, c: u32) -> usize
     ensures within { result < 2 ^ c }
 {
     first_bits_of(sig.w0, c) as usize
-}
-
-/// The numbers of the signatures of each chunk.
-fn chunks_of(alloc: Global, sigs: &[Signature], c: u32) -> Result<Vec<Vec<u32>>, AllocError>
-    requires few { length sigs.now < 2 ^ 32 }
-    requires bits { c ≤ 32 }
-    ensures lists { IfOk result (λ v. map (λ u. u.items) v.items
-        ≡ map (chunk_numbers c sigs.now) (range_with_len 0 (2 ^ c))) }
-    ensures within { OnOk result (All (λ sig. chunk_of_signature sig c < 2 ^ c) sigs.now) }
-{
-    let mut chunks = empty_lists(alloc, 1 << c, sigs.len() >> c)?;
-    for (number, sig) in sigs.iter().enumerate() {
-        put(&mut chunks, chunk_index(sig, c), number as u32)?;
-    }
-    Ok(chunks)
 }
 
 /// So many empty lists, each with room for an eighth more than so many numbers on average.
@@ -100,15 +112,16 @@ fn put(lists: &mut Vec<Vec<u32>>, place: usize, number: u32) -> Result<(), Alloc
     Ok(())
 }
 
-/// Among the pairs of equal signatures of one list, one with the least second number.
-fn least_pair(alloc: Global, sigs: &[Signature], lists: &[Vec<u32>]) -> Result<Pair, AllocError>
+/// Among the pairs of equal signatures of one list, one with the least second number. Where there is none, `second` is the
+/// number of all signatures.
+fn least_pair(alloc: Global, sigs: &[Signature], lists: &[Vec<u32>]) -> Result<Twins, AllocError>
     requires few { length sigs.now < 2 ^ 32 }
     requires inside { All (λ v. All (λ n. n < length sigs.now) v.items) lists.now }
     ensures found { IfOk result (λ r. IsFound sigs.now r.first r.second) }
     ensures least { IfOk result
         (λ r. IsLeastFound sigs.now (map (λ v. v.items) lists.now) r.second) }
 {
-    let mut found = Pair {
+    let mut found = Twins {
         first: 0,
         second: sigs.len() as u32,
     };
@@ -135,7 +148,7 @@ fn fill(ordered: &mut Vec<Numbered>, sigs: &[Signature], numbers: &[u32]) -> Res
 }
 
 /// The pair that was found, or a pair of equal neighbours with a lesser second number: the least.
-fn least_neighbours(ordered: &[Numbered], mut found: Pair) -> Pair
+fn least_neighbours(ordered: &[Numbered], mut found: Twins) -> Twins
     ensures either { (result ≡ found) ⊎ IsNeighbour ordered.now result.first result.second }
     ensures before { result.second ≤ found.second }
     ensures least { (first second : ℕ) → IsNeighbour ordered.now first second
@@ -149,13 +162,13 @@ fn least_neighbours(ordered: &[Numbered], mut found: Pair) -> Pair
 
 /// The pair that was found, or the numbers of these two if they are equal and the second is lesser.
 #[inline(always)]
-fn nearer(left: Numbered, right: Numbered, found: Pair) -> Pair
+fn nearer(left: Numbered, right: Numbered, found: Twins) -> Twins
     ensures either { (result ≡ found) ⊎ Follows left right result.first result.second }
     ensures before { result.second ≤ found.second }
     ensures least { (first second : ℕ) → Follows left right first second → result.second ≤ second }
 {
     if left.0 == right.0 && left.1 < right.1 && right.1 < found.second {
-        return Pair {
+        return Twins {
             first: left.1,
             second: right.1,
         };

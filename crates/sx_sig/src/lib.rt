@@ -7,7 +7,7 @@ mod grouping;
 mod signing;
 
 pub use chunks::{chunk_bits, chunk_of, places, segment, top_bits};
-pub use grouping::{Grouped, group};
+pub use grouping::{Twins, chunks_of, first_twins, has_twins};
 pub use signing::sign;
 pub use sx_spec::{Edge as Places, Method, Plan, Signature};
 pub use sx_spec_kinds::Kind;

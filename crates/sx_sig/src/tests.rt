@@ -1,8 +1,8 @@
 //! Signatures and places that were computed elsewhere.
 
 use crate::{
-    Grouped, Method, Places, Signature, chunk_bits, chunk_of, group, places, segment, sign,
-    top_bits,
+    Method, Places, Signature, Twins, chunk_bits, chunk_of, chunks_of, first_twins, has_twins,
+    places, segment, sign, top_bits,
 };
 use std::test::Fail;
 use sx_bits::BitView;
@@ -80,18 +80,16 @@ fn named(w0: u64) -> Signature {
 }
 
 #[test]
-fn groups(rt: HostRuntime) -> Result<(), Fail> {
+fn numbers_by_chunk(rt: HostRuntime) -> Result<(), Fail> {
     let half = 1 << 63;
     let sigs = [named(0), named(half), named(1), named(half + 1)];
-    match group(rt.alloc(), &sigs, 1)? {
-        Grouped::Chunks(chunks) => {
-            assert_eq!(rt; chunks.len(), 2);
-            for (chunk, want) in chunks.iter().zip([[0, 2], [1, 3]]) {
-                assert_eq!(rt; chunk.as_slice(), want.as_slice());
-            }
-        }
-        Grouped::Twins { .. } => assert!(rt; false, "no two are equal"),
+    let chunks = chunks_of(rt.alloc(), &sigs, 1)?;
+    assert_eq!(rt; chunks.len(), 2);
+    for (chunk, want) in chunks.iter().zip([[0, 2], [1, 3]]) {
+        assert_eq!(rt; chunk.as_slice(), want.as_slice());
     }
+    assert!(rt; first_twins(rt.alloc(), &sigs, &chunks)?.is_none());
+    assert!(rt; !has_twins(rt.alloc(), &sigs)?);
     Ok(())
 }
 
@@ -103,9 +101,12 @@ fn finds_the_first_twins(rt: HostRuntime) -> Result<(), Fail> {
         w2: 5,
     };
     let sigs = [named(9), five, named(2), five, named(2), five];
-    match group(rt.alloc(), &sigs, 0)? {
-        Grouped::Twins { first, second } => assert_eq!(rt; (first, second), (1, 3)),
-        Grouped::Chunks(_) => assert!(rt; false, "two are equal"),
-    }
+    let chunks = chunks_of(rt.alloc(), &sigs, 0)?;
+    let want = Some(Twins {
+        first: 1,
+        second: 3,
+    });
+    assert_eq!(rt; first_twins(rt.alloc(), &sigs, &chunks)?, want);
+    assert!(rt; has_twins(rt.alloc(), &sigs)?);
     Ok(())
 }

@@ -10,3 +10,4 @@ pub mod OneChunk
 pub mod ChunkTables
 pub mod FunctionSections
 pub mod Viewing
+pub mod Differing

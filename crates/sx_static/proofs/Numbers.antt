@@ -36,7 +36,7 @@ length_chosen xs (n ∷ numbers) all =
     ap (λ o. length (cons_option o (chosen xs numbers))) at ∙ ap suc (length_chosen xs numbers all.1)
 
 -- an element that was chosen
-chosen_at : {X : Type 0} (xs : List X) (numbers : List ℕ) (k : ℕ) → AllByRecursion (λ i. i < length xs) numbers → k < length numbers → slice_get (chosen xs numbers) k ≡ slice_get xs (slice_index numbers k)
+pub chosen_at : {X : Type 0} (xs : List X) (numbers : List ℕ) (k : ℕ) → AllByRecursion (λ i. i < length xs) numbers → k < length numbers → slice_get (chosen xs numbers) k ≡ slice_get xs (slice_index numbers k)
 chosen_at xs [] k all inside = absurd (omega arith)
 chosen_at xs (n ∷ numbers) zero all inside =
     let (x, at) = at_index xs n all.0 in

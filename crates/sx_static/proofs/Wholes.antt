@@ -79,7 +79,7 @@ module _ (method : Method) (sigs : List Signature) (values : List ℕ) (same : l
   segment_is : s ≡ chunk_segment method entries j
   segment_is = ap (segment method) as_many
 
-  equations_are : (t : ℕ) → try_equations s t (chosen sigs numbers) (chosen values numbers) ≡ equations method entries j t
+  pub equations_are : (t : ℕ) → try_equations s t (chosen sigs numbers) (chosen values numbers) ≡ equations method entries j t
   equations_are t =
       ap (map (entry_equation t s)) own
       ∙ ap (λ k. map (entry_equation t k) (chunk_entries entries j)) segment_is

@@ -1,11 +1,16 @@
 -- Chunks that were built one after another.
-use Rattle.std.specs.Prelude.{◌≡◌, ℕ, ◌+◌, ◌*◌, ◌<◌, ◌≤◌, ◌^◌, List, [], ◌∷◌, length, map, flat_map, sum_by, take}
+use Rattle.std.specs.Prelude.{◌≡◌, ℕ, ◌+◌, ◌*◌, ◌<◌, ◌≤◌, ◌^◌, List, [], ◌∷◌, length, map, flat_map, sum_by, take, Vec}
+use Rattle.std.specs.Global.{Global}
 use Rattle.std.specs.List.{AllByRecursion, AllZip, range_with_len}
 use Rattle.sx_spec.specs.declared.Method.{Method}
+use Rattle.sx_spec.specs.declared.Signature.{Signature}
 use Rattle.sx_spec.specs.Chunks.{segment}
-use Rattle.sx_spec.specs.StaticFunction.{Chunk, Entry, cell_count, chunk_segment, equations, IsLeastTry}
+use Rattle.sx_spec.specs.StaticFunction.{AllDiffer, AreTwins, Chunk, Entry, cell_count, chunk_segment, equations, IsLeastTry}
 use Rattle.sx_spec.specs.Systems.{Solves}
 use Rattle.sx_solve.specs.Solving.{IsEquationWithin}
+use Rattle.sx_static.specs.declared.Built.{Built}
+use Rattle.sx_static.specs.declared.Built.TheVariants.{Done, Twins, Stuck}
+use Rattle.sx_static.specs.declared.Witness.{Witness}
 
 -- how many cells a chunk of the pairs of these numbers has
 abbrev pub cells_needed : Method → List ℕ → ℕ
@@ -46,3 +51,9 @@ pub record AreFound (method : Method) (entries : List Entry) (many first : ℕ) 
   pub start : first ≡ cell_count (chunks_of found)
   pub table : words ≡ starts_from 0 (chunks_of found)
   pub cells : take first row ≡ flat_map (λ f. f.cells) found
+
+-- the signatures have these first twins, or all differ and no try works for the chunk, with these witnesses
+abbrev pub IsToldOf : List Signature → ℕ → Vec Witness Global → Built → Type 0
+IsToldOf sigs chunk witnesses (Done f) = ⊥
+IsToldOf sigs chunk witnesses (Twins first second) = AreTwins sigs first second
+IsToldOf sigs chunk witnesses (Stuck j each) = AllDiffer sigs × (j ≡ chunk) × (each ≡ witnesses)

@@ -4,7 +4,7 @@ use Rattle.std.specs.List.{AllByRecursion, AllZip, range_with_len}
 use Rattle.sx_spec.specs.declared.Equation.{Equation}
 use Rattle.sx_spec.specs.declared.Method.{Method}
 use Rattle.sx_spec.specs.declared.Signature.{Signature}
-use Rattle.sx_spec.specs.StaticFunction.{entry_equation, CanBeBuilt, CannotBeBuilt}
+use Rattle.sx_spec.specs.StaticFunction.{AllDiffer, entry_equation, CanBeBuilt, CannotBeBuilt}
 use Rattle.sx_spec.specs.Systems.{chosen, Solves, IsIndexSet}
 use Rattle.sx_solve.specs.Solving.{IsEquationWithin}
 use Rattle.sx_static.specs.Answer.{entries_of, witness_numbers, IsWitnessOf}
@@ -43,9 +43,9 @@ pub record IsFailure (method : Method) (s : ℕ) (sigs : List Signature) (values
   pub named : witness_numbers witness ≡ map (slice_index numbers) places
   pub kind : IsWitnessOf method witness
 
--- the least try that works with its cells, or a witness for each of the 64 tries
+-- the least try that works with its cells, or a witness for each of the 64 tries unless two signatures are equal
 abbrev pub IsTried : Method → ℕ → List Signature → List ℕ → List ℕ → Tried → Type 0
 IsTried method s sigs values numbers (WorksAt number cells) =
     (number < 64) × AreCells method s number sigs values cells.items × ((t : ℕ) → t < number → ¬ CanBeBuilt method (try_equations s t sigs values))
 IsTried method s sigs values numbers (AllFail witnesses) =
-    AllZip (IsFailure method s sigs values numbers) (range_with_len 0 64) witnesses.items
+    AllDiffer sigs → AllZip (IsFailure method s sigs values numbers) (range_with_len 0 64) witnesses.items

@@ -9,14 +9,14 @@ ghost use Rattle.sx_static.specs.Tries.{IsTried};
 use crate::tries::{Try, make_try};
 use crate::{Method, Signature, Witness};
 use std::alloc::{AllocError, Global};
-use sx_sig::segment;
+use sx_sig::{has_twins, segment};
 
 /// What the tries at a chunk come to.
 #[derive(Drop)]
 pub(crate) enum Tried {
     /// The least number of a try that works, and its cells.
     Works { number: u32, cells: Vec<u64> },
-    /// A witness for each try, by the numbers of pairs.
+    /// A witness for each try, by the numbers of pairs; or of fewer tries, where two signatures are equal.
     Fails(Vec<Witness>),
 }
 
@@ -39,7 +39,8 @@ pub(crate) fn build_chunk(
     make_tries(alloc, &own_sigs, &own_values, method, numbers)
 }
 
-/// Makes one try after the other until one works.
+/// Makes one try after the other until one works. Where the first doesn't, and two signatures are equal, no more are made:
+/// no try peels equal edges.
 fn make_tries(
     alloc: Global,
     sigs: &[Signature],
@@ -59,6 +60,9 @@ fn make_tries(
         match make_try(alloc, sigs, values, method, s, number)? {
             Try::Works(cells) => return Ok(Tried::Works { number, cells }),
             Try::Fails(witness) => witnesses.push(of_pairs(alloc, &witness, numbers)?)?,
+        }
+        if number == 0 && has_twins(alloc, sigs)? {
+            return Ok(Tried::Fails(witnesses));
         }
     }
     Ok(Tried::Fails(witnesses))

@@ -10,14 +10,16 @@ mod edges;
 mod section;
 mod table;
 mod tries;
+mod twins;
 mod view;
 
 pub use section::{TABLE_CHECK, function_check};
 use std::alloc::{AllocError, Global};
 use sx_fields::packed_buf::PackedBuf;
-use sx_sig::{Grouped, chunk_bits, group};
+use sx_sig::{chunk_bits, chunks_of};
 pub use sx_spec::{Method, Signature};
 use table::build_chunks;
+use twins::{early_twins, twins_told};
 pub use view::FuncView;
 
 /// A function as it is built.
@@ -72,10 +74,10 @@ pub fn build(
     requires width { width ≤ 64 }
     ensures { IfOk result (λ b. IsAnswer method 64 width (entries_of sigs.now values.now) b) }
 {
-    let pairs = sigs.len() as u32;
-    match group(alloc, sigs, chunk_bits(pairs))? {
-        Grouped::Twins { first, second } => Ok(Built::Twins { first, second }),
-        Grouped::Chunks(chunks) => build_chunks(alloc, sigs, values, width, method, &chunks),
+    let chunks = chunks_of(alloc, sigs, chunk_bits(sigs.len() as u32))?;
+    match early_twins(alloc, sigs, &chunks, method)? {
+        Some(twins) => Ok(twins_told(twins)),
+        None => build_chunks(alloc, sigs, values, width, method, &chunks),
     }
 }
 

@@ -4,18 +4,21 @@ ghost use Rattle.std.specs.Prelude.{◌≡◌, ◌+◌, ◌*◌, ◌<◌, ◌≤
 ghost use Rattle.std.specs.List.{range_with_len};
 ghost use Rattle.sx_spec.specs.Chunks.{chunk_bits};
 ghost use Rattle.sx_spec.specs.StaticFunction.{AllDiffer};
-ghost use Rattle.sx_sig.specs.Grouping.{chunk_numbers};
+ghost use Rattle.sx_spec.specs.declared.Method.TheVariants.{Gov3};
+ghost use Rattle.sx_sig.specs.Grouping.{GathersEqual, chunk_numbers};
 ghost use Rattle.sx_static.specs.Answer.{IsAnswer, entries_of};
 ghost use Rattle.sx_static.specs.Chunks.{ListsHold, cells_needed};
 
 use crate::chunk::{Tried, build_chunk};
+use crate::twins::why_none;
 use crate::{Built, FuncBuf, Method, Signature};
 use std::alloc::{AllocError, Global};
 use sx_fields::fields::FieldsMut;
 use sx_fields::packed_buf::PackedBuf;
 use sx_sig::segment;
 
-/// Builds one chunk after the other, from the numbers of their pairs.
+/// Builds one chunk after the other, from the numbers of their pairs. Where edges are peeled, equal signatures are looked for
+/// only at a chunk that has none.
 pub(crate) fn build_chunks(
     alloc: Global,
     sigs: &[Signature],
@@ -28,10 +31,11 @@ pub(crate) fn build_chunks(
     requires few { length sigs.now ≤ 2 ^ 27 }
     requires fit { All (λ v. v < 2 ^ width) values.now }
     requires width { width ≤ 64 }
-    requires differ { AllDiffer sigs.now }
+    requires differ { method ≡ Gov3 → AllDiffer sigs.now }
     requires lists { map (λ v. v.items) chunks.now
         ≡ map (chunk_numbers (chunk_bits (length sigs.now)) sigs.now)
         (range_with_len 0 (2 ^ chunk_bits (length sigs.now))) }
+    requires gathers { GathersEqual sigs.now (map (λ v. v.items) chunks.now) }
     ensures { IfOk result (λ b. IsAnswer method 64 width (entries_of sigs.now values.now) b) }
 {
     let total = all_cells(method, chunks);
@@ -49,8 +53,8 @@ pub(crate) fn build_chunks(
                 start += found.len();
             }
             Tried::Fails(witnesses) => {
-                let chunk = chunk as u32;
-                return Ok(Built::Stuck { chunk, witnesses });
+                let why = why_none(alloc, sigs, chunks, chunk as u32, witnesses)?;
+                return Ok(why);
             }
         }
     }

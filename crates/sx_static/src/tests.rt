@@ -95,6 +95,19 @@ fn answer(table: &[u64], words: &[u64], sig: &Signature) -> Option<u64> {
     Some(a ^ b ^ c)
 }
 
+/// What a build of values of any width comes to.
+fn built(
+    alloc: Global,
+    sigs: &[Signature],
+    values: &[u64],
+    method: Method,
+) -> Result<Built, AllocError>
+    requires values { length values.now ≡ length sigs.now }
+    requires few { length sigs.now ≤ 2 ^ 27 }
+{
+    build(alloc, sigs, values, 64, method)
+}
+
 /// Whether a build has two chunks and answers each signature with its value.
 fn two_chunks_answer(
     alloc: Global,
@@ -105,7 +118,7 @@ fn two_chunks_answer(
     requires values { length values.now ≡ length sigs.now }
     requires few { length sigs.now ≤ 2 ^ 27 }
 {
-    match build(alloc, sigs, values, 64, method)? {
+    match built(alloc, sigs, values, method)? {
         Built::Done(function) => {
             let mut right = function.table.len() == 3;
             for (sig, value) in sigs.iter().zip(values.iter()) {
@@ -123,8 +136,8 @@ fn mixed_chunks_answer(alloc: Global, method: Method) -> Result<bool, AllocError
     for n in 0..1100 {
         sigs.push(Signature {
             w0: mixed(n),
-            w1: mixed(n + 2000),
-            w2: mixed(n + 4000),
+            w1: mixed(n.wrapping_add(2000)),
+            w2: mixed(n.wrapping_add(4000)),
         })?;
         values.push(mixed(n + 6000))?;
     }
@@ -138,5 +151,51 @@ fn mixed_chunks_answer(alloc: Global, method: Method) -> Result<bool, AllocError
 fn two_chunks_answer_their_values(rt: HostRuntime) -> Result<(), Fail> {
     assert!(rt; mixed_chunks_answer(rt.alloc(), Method::Mwhc)?);
     assert!(rt; mixed_chunks_answer(rt.alloc(), Method::Gov3)?);
+    Ok(())
+}
+
+/// The signature of a number in the later of two chunks.
+fn later(n: u64) -> Signature {
+    Signature {
+        w0: mixed(n) | 1 << 63,
+        w1: mixed(n.wrapping_add(2000)),
+        w2: mixed(n.wrapping_add(4000)),
+    }
+}
+
+/// What a build of two chunks comes to. In the first, 600 edges share two of their vertices and have 248 to differ in. In the
+/// second, signatures come again after so many.
+fn crowded(alloc: Global, period: u64) -> Result<Built, AllocError>
+    requires { 1 ≤ period }
+{
+    let mut sigs = Vec::new(alloc);
+    let mut values = Vec::new(alloc);
+    for n in 0..600 {
+        sigs.push(signature(n))?;
+        values.push(n)?;
+    }
+    for n in 0..600 {
+        sigs.push(later(n % period))?;
+        values.push(n)?;
+    }
+    if sigs.len() != 1200 || values.len() != 1200 {
+        return Ok(Built::Twins {
+            first: 0,
+            second: 0,
+        });
+    }
+    built(alloc, &sigs, &values, Method::Mwhc)
+}
+
+#[test]
+fn equal_signatures_of_a_later_chunk_are_told(rt: HostRuntime) -> Result<(), Fail> {
+    match crowded(rt.alloc(), 599)? {
+        Built::Twins { first, second } => assert_eq!(rt; (first, second), (600, 1199)),
+        Built::Done(_) | Built::Stuck { .. } => assert!(rt; false, "no twins"),
+    }
+    match crowded(rt.alloc(), 600)? {
+        Built::Stuck { chunk, witnesses } => assert_eq!(rt; (chunk, witnesses.len()), (0, 64)),
+        Built::Done(_) | Built::Twins { .. } => assert!(rt; false, "no chunk"),
+    }
     Ok(())
 }

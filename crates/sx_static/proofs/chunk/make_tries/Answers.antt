@@ -34,7 +34,7 @@ loop-number-preserved c =
     }
 
 pub returns : goal.returns
-returns c =
+returns c differ =
     let all : c.loop-number.number ≡ 64 = omega arith in
     let Each : ℕ → ℕ → Type 0 = λ s n. AllZip (IsFailure c.args.method s c.args.sigs.now c.args.values.now c.args.numbers.now) (range_with_len 0 n) c.loop-number.witnesses.items in
     subst (λ (n : ℕ). Each (segment c.args.method (length c.args.sigs.now)) n) all (subst (λ (s : ℕ). Each s c.loop-number.number) c.segment-s.ensures c.loop-number.invariant.each)

@@ -13,6 +13,7 @@ use Rattle.sx_static.specs.Tries.{IsTried}
 use Rattle.sx_static.proofs.Counting.{lists_of, list_at, lists_hold, list_short}
 use Rattle.sx_static.proofs.Wholes.{many_lists, numbers_at, within, found_chunk, more_found, chosen_fit}
 use Rattle.sx_static.proofs.Functions.{done, stuck}
+use Rattle.sx_static.proofs.Differing.{built_differ, chunk_differs, told}
 use Rattle.sx_static.proofs.table.build_chunks.Goals as goal
 
 pub all_cells-total-requires : goal.all_cells-total-requires
@@ -93,7 +94,11 @@ returns-in-Fails c =
     let tried = subst (IsTried method (segment method (length now)) (chosen sigs now) (chosen values now) now) c.in-Fails.is c.in_ok-number.ensures in
     let many = many_lists chunks sigs c.requires.lists in
     let inside : j < 2 ^ chunk_bits (length sigs) = omega arith in
-    stuck method c.args.width sigs values c.requires.values c.requires.differ j c.loop-chunk.start c.loop-chunk.table.items c.loop-chunk.cells.items c.loop-chunk.invariant.found inside now are c.in-Fails.witnesses.items tried
+    let why = c.in_ok-why-in-Fails.why in
+    told method c.args.width sigs values c.requires.values j c.in-Fails.witnesses
+    (λ differ. stuck method c.args.width sigs values c.requires.values differ j c.loop-chunk.start c.loop-chunk.table.items c.loop-chunk.cells.items c.loop-chunk.invariant.found inside now are c.in-Fails.witnesses.items
+    (tried (chunk_differs sigs values c.requires.values j now are differ)))
+    why c.in_ok-why-in-Fails.ensures
 
 pub loop-chunk-preserved : goal.loop-chunk-preserved
 loop-chunk-preserved c =
@@ -150,5 +155,6 @@ returns c =
     let start = at.invariant.start in
     let total = c.all_cells-total.ensures in
     let count = at.invariant.count in
-    done method c.args.width sigs c.args.values.now c.requires.values c.requires.differ
+    let differ = built_differ method sigs c.args.values.now c.requires.values lists c.requires.gathers c.requires.lists c.requires.differ found.found found.each in
+    done method c.args.width sigs c.args.values.now c.requires.values differ
     (record { width = c.args.width; pairs = length sigs; table = c.push-2.new.self; cells = at.cells }) at.start at.table.items found refl refl c.in_ok-push.ensures.items at.invariant.width (omega arith) (omega arith) at.invariant.fit

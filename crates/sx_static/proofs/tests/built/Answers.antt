@@ -1,6 +1,6 @@
 use Rattle.std.proofs.Common.{arith}
 use Rattle.std.proofs.lemmas.List.{get_or_default}
-use Rattle.sx_static.proofs.tests.two_chunks_answer.Goals as goal
+use Rattle.sx_static.proofs.tests.built.Goals as goal
 
 pub build-requires-clause-fit : goal.build-requires-clause-fit
 build-requires-clause-fit c = λ k d h.
