@@ -135,7 +135,7 @@ counts_few h n (x ∷ xs) m =
     let rest = counts_few h (n + 1) xs m in
     omega arith
 
-sum_by_mapped : {X Y : Type 0} (f : Y → ℕ) (g : X → Y) (xs : List X) → sum_by f (map g xs) ≡ sum_by (λ x. f (g x)) xs
+pub sum_by_mapped : {X Y : Type 0} (f : Y → ℕ) (g : X → Y) (xs : List X) → sum_by f (map g xs) ≡ sum_by (λ x. f (g x)) xs
 sum_by_mapped f g [] = refl
 sum_by_mapped f g (x ∷ xs) =
     let a = sum_by-cons f (g x) (map g xs) in

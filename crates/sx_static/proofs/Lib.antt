@@ -11,3 +11,4 @@ pub mod ChunkTables
 pub mod FunctionSections
 pub mod Viewing
 pub mod Differing
+pub mod BitParts

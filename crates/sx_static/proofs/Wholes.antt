@@ -73,7 +73,7 @@ module _ (method : Method) (sigs : List Signature) (values : List ℕ) (same : l
   own : entries_of (chosen sigs numbers) (chosen values numbers) ≡ chunk_entries entries j
   own = chosen_entries sigs values numbers same ∙ chunk_chosen
 
-  as_many : length numbers ≡ length (chunk_entries entries j)
+  pub as_many : length numbers ≡ length (chunk_entries entries j)
   as_many = sym (length_chosen entries numbers within_entries) ∙ ap length chunk_chosen
 
   segment_is : s ≡ chunk_segment method entries j

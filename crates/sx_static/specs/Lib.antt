@@ -4,3 +4,4 @@ pub mod Solving
 pub mod Tries
 pub mod Chunks
 pub mod Viewing
+pub mod Both

@@ -4,6 +4,7 @@
 ghost use Rattle.std.specs.Prelude.{◌≡◌, ◌<◌, ◌≤◌, ◌^◌, All, IfOk, length};
 ghost use Rattle.sx_static.specs.Answer.{IsAnswer, entries_of};
 
+mod both;
 mod cells;
 mod chunk;
 mod edges;
@@ -13,6 +14,7 @@ mod tries;
 mod twins;
 mod view;
 
+pub use both::{Both, build_both};
 pub use section::{TABLE_CHECK, function_check};
 use std::alloc::{AllocError, Global};
 use sx_fields::packed_buf::PackedBuf;

@@ -136,8 +136,8 @@ fn mixed_chunks_answer(alloc: Global, method: Method) -> Result<bool, AllocError
     for n in 0..1100 {
         sigs.push(Signature {
             w0: mixed(n),
-            w1: mixed(n.wrapping_add(2000)),
-            w2: mixed(n.wrapping_add(4000)),
+            w1: mixed(n + 2000),
+            w2: mixed(n + 4000),
         })?;
         values.push(mixed(n + 6000))?;
     }
@@ -196,6 +196,55 @@ fn equal_signatures_of_a_later_chunk_are_told(rt: HostRuntime) -> Result<(), Fai
     match crowded(rt.alloc(), 600)? {
         Built::Stuck { chunk, witnesses } => assert_eq!(rt; (chunk, witnesses.len()), (0, 64)),
         Built::Done(_) | Built::Twins { .. } => assert!(rt; false, "no chunk"),
+    }
+    Ok(())
+}
+
+/// Whether a build gave this function.
+fn is_function(built: &Built, function: &FuncBuf) -> bool {
+    match built {
+        Built::Done(alone) => {
+            alone.table.as_slice() == function.table.as_slice()
+                && alone.cells.words() == function.cells.words()
+                && alone.width == function.width
+                && alone.pairs == function.pairs
+        }
+        Built::Twins { .. } | Built::Stuck { .. } => false,
+    }
+}
+
+/// Whether these are functions as they are built alone.
+fn are_alone(alloc: Global, low: &FuncBuf, high: &FuncBuf) -> Result<bool, AllocError> {
+    let sigs = [later(1), later(2), later(3)];
+    let first = build(alloc, &sigs, &[2, 4, 7], 3, Method::Mwhc)?;
+    let second = build(alloc, &sigs, &[1, 3, 5], 3, Method::Mwhc)?;
+    Ok(is_function(&first, low) && is_function(&second, high))
+}
+
+/// Builds two functions of three signatures, whose numbers have three octal digits: of each number one function has the last
+/// and one the first.
+fn three_at_once(alloc: Global) -> Result<Both, AllocError> {
+    let sigs = [later(1), later(2), later(3)];
+    build_both(alloc, &sigs, &[0o102, 0o364, 0o517], 3, 6, 3)
+}
+
+#[test]
+fn both_are_as_built_alone(rt: HostRuntime) -> Result<(), Fail> {
+    let both = three_at_once(rt.alloc())?;
+    let alone = match &both {
+        Both::Done { low, high } => are_alone(rt.alloc(), low, high)?,
+        Both::Twins { .. } | Both::Stuck { .. } => false,
+    };
+    assert!(rt; alone);
+    Ok(())
+}
+
+#[test]
+fn equal_signatures_have_neither(rt: HostRuntime) -> Result<(), Fail> {
+    let sigs = [later(7), later(5), later(5)];
+    match build_both(rt.alloc(), &sigs, &[1, 2, 3], 1, 1, 1)? {
+        Both::Twins { first, second } => assert_eq!(rt; (first, second), (1, 2)),
+        Both::Done { .. } | Both::Stuck { .. } => assert!(rt; false, "no twins"),
     }
     Ok(())
 }
