@@ -12,3 +12,4 @@ pub mod LcpDumps
 pub mod NarrowValues
 pub mod SignedEnds
 pub mod Signing
+pub mod KeyNumbers

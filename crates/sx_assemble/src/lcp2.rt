@@ -2,26 +2,30 @@
 
 ghost use Rattle.std.specs.Prelude.{◌≡◌, ◌<◌, ◌≤◌, ◌^◌, [], All, IfOk, MatchResult, length, map, slice_index};
 ghost use Rattle.sx_spec_kinds.specs.declared.Kind.TheVariants.{Lcp2};
+ghost use Rattle.sx_spec.specs.declared.Method.TheVariants.{Mwhc};
 ghost use Rattle.sx_spec_kinds.specs.Blocks.{block_size};
 ghost use Rattle.sx_spec.specs.Parts.{least_width as least_width_of, parts_of};
 ghost use Rattle.sx_static.specs.Answer.{IsDone, entries_of};
 ghost use Rattle.sx_assemble.specs.Assembling.{tries};
 ghost use Rattle.sx_assemble.specs.Ranking.{IsBlockPlan, IsRanked, offset_numbers as offset_numbers_of, signature_at};
 ghost use Rattle.sx_assemble.specs.Sectioning.{AreSectionsOf, StopsPart, StopsParts};
+ghost use Rattle.sx_assemble.specs.KeyFunctions.{AreKeyFunctions, StopsKeyFunctions};
 
 use crate::layout::{SectionBuf, packed_list};
 use crate::lcp::prefixes_function;
-use crate::numbers::{narrow_width, numbers_at, offset_numbers, widened};
-use crate::parts::{Stop, build_least, build_part};
+use crate::numbers::{
+    length_numbers, narrow_width, numbers_at, offset_numbers, offset_width, widened,
+};
+use crate::parts::{Stop, build_least, build_part, failed};
 use crate::signatures::{sign_keys, signatures_at};
 use crate::signed::with_signatures;
-use crate::{Assembled, finished, header_of};
+use crate::{Assembled, PartCause, finished, header_of};
 use std::alloc::{AllocError, Global};
 use sx_bits::KeyList;
 use sx_fields::packed_buf::PackedBuf;
 use sx_lcp::{TwoStep, lcp_parts, two_step};
 use sx_sig::{Method, Plan, Signature};
-use sx_static::FuncBuf;
+use sx_static::{Both, FuncBuf, build_both};
 
 /// The function of part 0, which gives each key its offset in its block.
 fn offsets_function(alloc: Global, sigs: &[Signature], plan: &Plan) -> Result<FuncBuf, Stop>
@@ -55,6 +59,73 @@ fn codes_function(
 {
     let numbers = widened(alloc, &codes.codes)?;
     build_part(alloc, 1, sigs, &numbers, codes.bits, method)
+}
+
+/// The functions that give each key a number.
+#[derive(Drop)]
+pub(crate) struct KeyFunctions {
+    /// The function of part 0.
+    offsets: FuncBuf,
+    /// The function of part 1.
+    codes: FuncBuf,
+}
+
+/// The functions of parts 0 and 1. Where edges are peeled, these are taken away once for both.
+fn key_functions(
+    alloc: Global,
+    sigs: &[Signature],
+    codes: &TwoStep,
+    plan: &Plan,
+) -> Result<KeyFunctions, Stop>
+    requires bucket { plan.now.log_bucket ≤ 12 }
+    requires numbers { length codes.now.codes.items ≡ length sigs.now }
+    requires few { length sigs.now ≤ 2 ^ 27 }
+    requires fit { All (λ c. c < 2 ^ codes.now.bits) codes.now.codes.items }
+    requires narrow { codes.now.bits ≤ 32 }
+    ensures { let numbers = offset_numbers_of (block_size plan.now.log_bucket) (length sigs.now) in
+        MatchResult result
+        (AreKeyFunctions plan.now.method sigs.now numbers codes.now.codes.items codes.now.bits)
+        (StopsKeyFunctions plan.now.method sigs.now numbers codes.now.codes.items) }
+{
+    match plan.method {
+        Method::Mwhc => peeled_functions(alloc, sigs, codes, plan.log_bucket),
+        Method::Gov3 => {
+            let offsets = offsets_function(alloc, sigs, plan)?;
+            let codes = codes_function(alloc, sigs, codes, plan.method)?;
+            Ok(KeyFunctions { offsets, codes })
+        }
+    }
+}
+
+/// The functions of parts 0 and 1, built at once. A signature's number has its offset in the low bits, and above them its code.
+fn peeled_functions(
+    alloc: Global,
+    sigs: &[Signature],
+    codes: &TwoStep,
+    log_bucket: u32,
+) -> Result<KeyFunctions, Stop>
+    requires bucket { log_bucket ≤ 12 }
+    requires numbers { length codes.now.codes.items ≡ length sigs.now }
+    requires few { length sigs.now ≤ 2 ^ 27 }
+    requires fit { All (λ c. c < 2 ^ codes.now.bits) codes.now.codes.items }
+    requires narrow { codes.now.bits ≤ 32 }
+    ensures { let numbers = offset_numbers_of (block_size log_bucket) (length sigs.now) in
+        MatchResult result
+        (AreKeyFunctions Mwhc sigs.now numbers codes.now.codes.items codes.now.bits)
+        (StopsKeyFunctions Mwhc sigs.now numbers codes.now.codes.items) }
+{
+    let numbers = length_numbers(alloc, &codes.codes, log_bucket)?;
+    let low = offset_width(sigs.len() as u32, log_bucket);
+    match build_both(alloc, sigs, &numbers, low, log_bucket, codes.bits)? {
+        Both::Done { low, high } => Ok(KeyFunctions {
+            offsets: low,
+            codes: high,
+        }),
+        Both::Twins { first, second } => Err(failed(0, PartCause::Twins { first, second })),
+        Both::Stuck { chunk, witnesses } => {
+            Err(failed(0, PartCause::Stuck { chunk, witnesses }))
+        }
+    }
 }
 
 /// The function of part 2, which gives the keys of these numbers the lengths.
@@ -105,14 +176,13 @@ fn lcp2_sections(
     let sigs = sign_keys(alloc, keys, seed, plan.sig_bits)?;
     let parts = lcp_parts(alloc, keys, plan.log_bucket)?;
     let coded = two_step(alloc, &parts.lengths)?;
-    let offsets = offsets_function(alloc, &sigs, plan)?;
-    let codes = codes_function(alloc, &sigs, &coded, plan.method)?;
+    let functions = key_functions(alloc, &sigs, &coded, plan)?;
     let escaped = escaped_function(alloc, &sigs, &parts.lengths, &coded.escaped, plan.method)?;
     let prefixes = prefixes_function(alloc, 3, keys, &parts.prefixes, plan, seed)?;
     let table = table_list(alloc, &parts.lengths, &coded.table)?;
     let sections = vec![in alloc;
-        SectionBuf::Function(offsets),
-        SectionBuf::Function(codes),
+        SectionBuf::Function(functions.offsets),
+        SectionBuf::Function(functions.codes),
         SectionBuf::Numbers(table),
         SectionBuf::Function(escaped),
         SectionBuf::Function(prefixes),

@@ -82,6 +82,20 @@ pub(crate) fn offset_numbers(
     Ok(numbers)
 }
 
+/// How many bits the greatest offset of `count` keys in their blocks of 2 to the power `log_bucket` keys has.
+pub(crate) fn offset_width(count: u32, log_bucket: u32) -> u32
+    requires { log_bucket ≤ 12 }
+    ensures value { result ≡ least_width_of (offset_numbers_of (block_size log_bucket) count) }
+    ensures bound { result ≤ 64 }
+{
+    let size = 1u64 << log_bucket;
+    let mut greatest = 0u64;
+    for i in 0..count {
+        greatest = greatest.max(u64::from(i) % size);
+    }
+    digits(greatest)
+}
+
 /// For each key its offset in its block of 2 to the power `log_bucket` keys and, times the size of a
 /// block, the length of the block's prefix.
 pub(crate) fn length_numbers(

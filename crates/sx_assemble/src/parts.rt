@@ -44,7 +44,7 @@ impl<T: Drop> From<AllocFailed<T>> for Stop {
 }
 
 /// Part number `part` has no function, for this cause.
-fn failed(part: u32, cause: PartCause) -> Stop
+pub(crate) fn failed(part: u32, cause: PartCause) -> Stop
     ensures { result ≡ Stop.Part (record { part = part; cause = cause }) }
 {
     Stop::Part(PartFault { part, cause })

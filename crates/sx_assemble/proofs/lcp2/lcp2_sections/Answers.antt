@@ -1,4 +1,4 @@
-use Rattle.std.proofs.Common.{◌≡◌, ◌∙◌, ◌^◌, ◌<◌, ◌≤◌, ℕ, List, [], All, Ok, Err, length, map, ap, subst, sym, arith}
+use Rattle.std.proofs.Common.{◌≡◌, ◌∙◌, ◌^◌, ◌<◌, ◌≤◌, ℕ, List, [], All, Ok, Err, length, map, ap, subst, sym, arith, inl, inr}
 use Rattle.std.proofs.lemmas.List.{length-map}
 use Rattle.std.proofs.lemmas.Result.{err_from_is_err_and}
 use Rattle.sx_spec_strings.specs.Bits.{key_bits}
@@ -34,40 +34,8 @@ two_step-requires c =
     let all = length-map lines key_bits in
     omega arith
 
-pub offsets_function-requires-clause-few : goal.offsets_function-requires-clause-few
-offsets_function-requires-clause-few c =
-    let list = c.args.keys.now in
-    let lines = list.lines in
-    let keys = c.sign_keys.ensures.keys in
-    let few = few_lines list.limits lines keys.limits keys.faultless in
-    let as_many : length c.deref-2.result.now ≡ length lines = ap (λ (l : List Signature). length l) (c.deref-2.ensures.value ∙ c.in_ok-sigs.ensures.signed) ∙ length-map lines (key_signature c.args.seed c.args.plan.now.sig_bits) in
-    omega arith
-
-pub returns-in_err-offsets : goal.returns-in_err-offsets
-returns-in_err-offsets c =
-    let list = c.args.keys.now in
-    let lines = list.lines in
-    let plan = c.args.plan.now in
-    let seed = c.args.seed in
-    let keys = c.sign_keys.ensures.keys in
-    let few = few_lines list.limits lines keys.limits keys.faultless in
-    let sigs = c.in_ok-sigs.sigs.items in
-    let lens = c.in_ok-parts.parts.lengths.items in
-    let t = two_step_as c.in_ok-coded.coded in
-    let signed = c.in_ok-sigs.ensures.signed in
-    let lengths = c.in_ok-parts.ensures.lengths in
-    let two = c.in_ok-coded.ensures ∙ ap two_step_of c.deref.ensures.value in
-    let pairs = offsets_pairs (block_size plan.log_bucket) (map key_bits lines) in
-    let as_many : length c.deref-2.result.now ≡ length lines = ap (λ (l : List Signature). length l) (c.deref-2.ensures.value ∙ signed) ∙ length-map lines (key_signature seed plan.sig_bits) in
-    let numbers = offset_numbers (block_size plan.log_bucket) (length c.deref-2.result.now) in
-    let are = offsets_are plan.sig_bits seed lines (block_size plan.log_bucket) c.deref-2.result.now numbers (c.deref-2.ensures.value ∙ signed) (ap (offset_numbers (block_size plan.log_bucket)) as_many) in
-    let e = c.in_err-offsets.field-0.0 in
-    stops_out plan lines seed (parts_of plan 0 lines []) c.from_residual-in_err-offsets.result e
-    (err_from_is_err_and c.from_residual-in_err-offsets.result c.from_residual-in_err-offsets.ensures.1)
-    (lcp2_stops_first plan lines seed c.requires e (least_of plan seed 0 pairs c.deref-2.result.now numbers are (Err e) c.in_err-offsets.ensures.built))
-
-pub codes_function-requires-clause-numbers : goal.codes_function-requires-clause-numbers
-codes_function-requires-clause-numbers c =
+pub key_functions-requires-clause-numbers : goal.key_functions-requires-clause-numbers
+key_functions-requires-clause-numbers c =
     let list = c.args.keys.now in
     let lines = list.lines in
     let plan = c.args.plan.now in
@@ -83,20 +51,20 @@ codes_function-requires-clause-numbers c =
     let many = sigs_count plan list seed sigs lens t signed lengths two in
     let all = lens_many plan list seed sigs lens t signed lengths two in
     let count = built_codes_count lens t two in
-    let same = ap (λ (l : List Signature). length l) c.deref-3.ensures.value in
+    let same = ap (λ (l : List Signature). length l) c.deref-2.ensures.value in
     omega arith
 
-pub codes_function-requires-clause-few : goal.codes_function-requires-clause-few
-codes_function-requires-clause-few c =
+pub key_functions-requires-clause-few : goal.key_functions-requires-clause-few
+key_functions-requires-clause-few c =
     let list = c.args.keys.now in
     let lines = list.lines in
     let keys = c.sign_keys.ensures.keys in
     let few = few_lines list.limits lines keys.limits keys.faultless in
-    let as_many : length c.deref-3.result.now ≡ length lines = ap (λ (l : List Signature). length l) (c.deref-3.ensures.value ∙ c.in_ok-sigs.ensures.signed) ∙ length-map lines (key_signature c.args.seed c.args.plan.now.sig_bits) in
+    let as_many : length c.deref-2.result.now ≡ length lines = ap (λ (l : List Signature). length l) (c.deref-2.ensures.value ∙ c.in_ok-sigs.ensures.signed) ∙ length-map lines (key_signature c.args.seed c.args.plan.now.sig_bits) in
     omega arith
 
-pub codes_function-requires-clause-fit : goal.codes_function-requires-clause-fit
-codes_function-requires-clause-fit c =
+pub key_functions-requires-clause-fit : goal.key_functions-requires-clause-fit
+key_functions-requires-clause-fit c =
     let list = c.args.keys.now in
     let lines = list.lines in
     let plan = c.args.plan.now in
@@ -111,8 +79,8 @@ codes_function-requires-clause-fit c =
     let two = c.in_ok-coded.ensures ∙ ap two_step_of c.deref.ensures.value in
     built_codes_fit lens t two
 
-pub codes_function-requires-clause-narrow : goal.codes_function-requires-clause-narrow
-codes_function-requires-clause-narrow c =
+pub key_functions-requires-clause-narrow : goal.key_functions-requires-clause-narrow
+key_functions-requires-clause-narrow c =
     let list = c.args.keys.now in
     let lines = list.lines in
     let plan = c.args.plan.now in
@@ -128,8 +96,8 @@ codes_function-requires-clause-narrow c =
     let n = bits_narrow plan list seed sigs lens t signed lengths two keys c.requires.buckets in
     omega arith
 
-pub returns-in_err-codes : goal.returns-in_err-codes
-returns-in_err-codes c =
+pub returns-in_err-functions : goal.returns-in_err-functions
+returns-in_err-functions c =
     let list = c.args.keys.now in
     let lines = list.lines in
     let plan = c.args.plan.now in
@@ -146,12 +114,16 @@ returns-in_err-codes c =
     let as_many : length c.deref-2.result.now ≡ length lines = ap (λ (l : List Signature). length l) (c.deref-2.ensures.value ∙ signed) ∙ length-map lines (key_signature seed plan.sig_bits) in
     let numbers = offset_numbers (block_size plan.log_bucket) (length c.deref-2.result.now) in
     let are = offsets_are plan.sig_bits seed lines (block_size plan.log_bucket) c.deref-2.result.now numbers (c.deref-2.ensures.value ∙ signed) (ap (offset_numbers (block_size plan.log_bucket)) as_many) in
-    let offsets = c.in_ok-offsets.offsets in
-    let offsets_done = least_of plan seed 0 pairs c.deref-2.result.now numbers are (Ok offsets) c.in_ok-offsets.ensures.built in
-    let e = c.in_err-codes.field-0.0 in
-    stops_out plan lines seed (parts_of plan 0 lines []) c.from_residual-in_err-codes.result e
-    (err_from_is_err_and c.from_residual-in_err-codes.result c.from_residual-in_err-codes.ensures.1)
-    (lcp2_stops_second plan lines seed c.requires offsets offsets_done e (codes_of_keys plan list seed sigs lens t signed lengths two (Err e) (given_codes plan 1 t.bits t.codes c.deref-3.result.now sigs c.deref-3.ensures.value (Err e) c.in_err-codes.ensures)))
+    let e = c.in_err-functions.field-0.0 in
+    stops_out plan lines seed (parts_of plan 0 lines []) c.from_residual-in_err-functions.result e
+    (err_from_is_err_and c.from_residual-in_err-functions.result c.from_residual-in_err-functions.ensures.1)
+    (elim c.in_err-functions.ensures [
+      | inl first ↦ lcp2_stops_first plan lines seed c.requires e (least_of plan seed 0 pairs c.deref-2.result.now numbers are (Err e) first)
+      | inr second ↦
+          let first_done = least_of plan seed 0 pairs c.deref-2.result.now numbers are (Ok second.first) second.done in
+          lcp2_stops_second plan lines seed c.requires second.first first_done e
+          (codes_of_keys plan list seed sigs lens t signed lengths two (Err e) (given_codes plan 1 t.bits t.codes c.deref-2.result.now sigs c.deref-2.ensures.value (Err e) second.second))
+    ])
 
 pub escaped_function-requires-clause-few : goal.escaped_function-requires-clause-few
 escaped_function-requires-clause-few c =
@@ -169,7 +141,7 @@ escaped_function-requires-clause-few c =
     let two = c.in_ok-coded.ensures ∙ ap two_step_of c.deref.ensures.value in
     let all = lens_many plan list seed sigs lens t signed lengths two in
     let count = built_escaped_count lens t two in
-    let same = ap (λ (l : List ℕ). length l) c.deref-6.ensures.value in
+    let same = ap (λ (l : List ℕ). length l) c.deref-5.ensures.value in
     omega arith
 
 pub escaped_function-requires-clause-signed : goal.escaped_function-requires-clause-signed
@@ -188,11 +160,11 @@ escaped_function-requires-clause-signed c =
     let two = c.in_ok-coded.ensures ∙ ap two_step_of c.deref.ensures.value in
     let many = sigs_count plan list seed sigs lens t signed lengths two in
     let all = lens_many plan list seed sigs lens t signed lengths two in
-    let same = ap (λ (l : List Signature). length l) c.deref-4.ensures.value in
+    let same = ap (λ (l : List Signature). length l) c.deref-3.ensures.value in
     let within = built_escaped_within lens t two in
-    let moved = subst (λ (ps : List ℕ). All (λ i. i < length lens) ps) (sym c.deref-6.ensures.value) within in
-    let count : length lens ≡ length c.deref-4.result.now = omega arith in
-    subst (λ (n : ℕ). All (λ i. i < n) c.deref-6.result.now) count moved
+    let moved = subst (λ (ps : List ℕ). All (λ i. i < length lens) ps) (sym c.deref-5.ensures.value) within in
+    let count : length lens ≡ length c.deref-3.result.now = omega arith in
+    subst (λ (n : ℕ). All (λ i. i < n) c.deref-5.result.now) count moved
 
 pub escaped_function-requires-clause-within : goal.escaped_function-requires-clause-within
 escaped_function-requires-clause-within c =
@@ -209,8 +181,8 @@ escaped_function-requires-clause-within c =
     let lengths = c.in_ok-parts.ensures.lengths in
     let two = c.in_ok-coded.ensures ∙ ap two_step_of c.deref.ensures.value in
     let within = built_escaped_within lens t two in
-    let moved = subst (λ (ps : List ℕ). All (λ i. i < length lens) ps) (sym c.deref-6.ensures.value) within in
-    subst (λ (l : List ℕ). All (λ i. i < length l) c.deref-6.result.now) (sym c.deref-5.ensures.value) moved
+    let moved = subst (λ (ps : List ℕ). All (λ i. i < length lens) ps) (sym c.deref-5.ensures.value) within in
+    subst (λ (l : List ℕ). All (λ i. i < length l) c.deref-5.result.now) (sym c.deref-4.ensures.value) moved
 
 pub returns-in_err-escaped : goal.returns-in_err-escaped
 returns-in_err-escaped c =
@@ -230,14 +202,14 @@ returns-in_err-escaped c =
     let as_many : length c.deref-2.result.now ≡ length lines = ap (λ (l : List Signature). length l) (c.deref-2.ensures.value ∙ signed) ∙ length-map lines (key_signature seed plan.sig_bits) in
     let numbers = offset_numbers (block_size plan.log_bucket) (length c.deref-2.result.now) in
     let are = offsets_are plan.sig_bits seed lines (block_size plan.log_bucket) c.deref-2.result.now numbers (c.deref-2.ensures.value ∙ signed) (ap (offset_numbers (block_size plan.log_bucket)) as_many) in
-    let offsets = c.in_ok-offsets.offsets in
-    let offsets_done = least_of plan seed 0 pairs c.deref-2.result.now numbers are (Ok offsets) c.in_ok-offsets.ensures.built in
-    let codes = c.in_ok-codes.codes in
-    let codes_done = codes_of_keys plan list seed sigs lens t signed lengths two (Ok codes) (given_codes plan 1 t.bits t.codes c.deref-3.result.now sigs c.deref-3.ensures.value (Ok codes) c.in_ok-codes.ensures) in
+    let offsets = c.in_ok-functions.functions.offsets in
+    let offsets_done = least_of plan seed 0 pairs c.deref-2.result.now numbers are (Ok offsets) c.in_ok-functions.ensures.first in
+    let codes = c.in_ok-functions.functions.codes in
+    let codes_done = codes_of_keys plan list seed sigs lens t signed lengths two (Ok codes) (given_codes plan 1 t.bits t.codes c.deref-2.result.now sigs c.deref-2.ensures.value (Ok codes) c.in_ok-functions.ensures.second) in
     let e = c.in_err-escaped.field-0.0 in
     stops_out plan lines seed (parts_of plan 0 lines []) c.from_residual-in_err-escaped.result e
     (err_from_is_err_and c.from_residual-in_err-escaped.result c.from_residual-in_err-escaped.ensures.1)
-    (lcp2_stops_third plan lines seed c.requires offsets offsets_done codes codes_done e (escaped_of_keys plan list seed sigs lens t signed lengths two (Err e) (given_escaped plan 2 c.deref-4.result.now sigs c.deref-5.result.now lens c.deref-6.result.now t.escaped c.deref-4.ensures.value c.deref-5.ensures.value c.deref-6.ensures.value (Err e) c.in_err-escaped.ensures.built)))
+    (lcp2_stops_third plan lines seed c.requires offsets offsets_done codes codes_done e (escaped_of_keys plan list seed sigs lens t signed lengths two (Err e) (given_escaped plan 2 c.deref-3.result.now sigs c.deref-4.result.now lens c.deref-5.result.now t.escaped c.deref-3.ensures.value c.deref-4.ensures.value c.deref-5.ensures.value (Err e) c.in_err-escaped.ensures.built)))
 
 pub prefixes_function-requires-clause-few : goal.prefixes_function-requires-clause-few
 prefixes_function-requires-clause-few c = let keys = c.sign_keys.ensures.keys in few_lines c.args.keys.now.limits c.args.keys.now.lines keys.limits keys.faultless
@@ -260,12 +232,12 @@ returns-in_err-prefixes c =
     let as_many : length c.deref-2.result.now ≡ length lines = ap (λ (l : List Signature). length l) (c.deref-2.ensures.value ∙ signed) ∙ length-map lines (key_signature seed plan.sig_bits) in
     let numbers = offset_numbers (block_size plan.log_bucket) (length c.deref-2.result.now) in
     let are = offsets_are plan.sig_bits seed lines (block_size plan.log_bucket) c.deref-2.result.now numbers (c.deref-2.ensures.value ∙ signed) (ap (offset_numbers (block_size plan.log_bucket)) as_many) in
-    let offsets = c.in_ok-offsets.offsets in
-    let offsets_done = least_of plan seed 0 pairs c.deref-2.result.now numbers are (Ok offsets) c.in_ok-offsets.ensures.built in
-    let codes = c.in_ok-codes.codes in
-    let codes_done = codes_of_keys plan list seed sigs lens t signed lengths two (Ok codes) (given_codes plan 1 t.bits t.codes c.deref-3.result.now sigs c.deref-3.ensures.value (Ok codes) c.in_ok-codes.ensures) in
+    let offsets = c.in_ok-functions.functions.offsets in
+    let offsets_done = least_of plan seed 0 pairs c.deref-2.result.now numbers are (Ok offsets) c.in_ok-functions.ensures.first in
+    let codes = c.in_ok-functions.functions.codes in
+    let codes_done = codes_of_keys plan list seed sigs lens t signed lengths two (Ok codes) (given_codes plan 1 t.bits t.codes c.deref-2.result.now sigs c.deref-2.ensures.value (Ok codes) c.in_ok-functions.ensures.second) in
     let escaped = c.in_ok-escaped.escaped in
-    let escaped_done = escaped_of_keys plan list seed sigs lens t signed lengths two (Ok escaped) (given_escaped plan 2 c.deref-4.result.now sigs c.deref-5.result.now lens c.deref-6.result.now t.escaped c.deref-4.ensures.value c.deref-5.ensures.value c.deref-6.ensures.value (Ok escaped) c.in_ok-escaped.ensures.built) in
+    let escaped_done = escaped_of_keys plan list seed sigs lens t signed lengths two (Ok escaped) (given_escaped plan 2 c.deref-3.result.now sigs c.deref-4.result.now lens c.deref-5.result.now t.escaped c.deref-3.ensures.value c.deref-4.ensures.value c.deref-5.ensures.value (Ok escaped) c.in_ok-escaped.ensures.built) in
     let e = c.in_err-prefixes.field-0.0 in
     stops_out plan lines seed (parts_of plan 0 lines []) c.from_residual-in_err-prefixes.result e
     (err_from_is_err_and c.from_residual-in_err-prefixes.result c.from_residual-in_err-prefixes.ensures.1)
@@ -287,7 +259,7 @@ table_list-requires-clause-few c =
     let two = c.in_ok-coded.ensures ∙ ap two_step_of c.deref.ensures.value in
     let all = lens_many plan list seed sigs lens t signed lengths two in
     let count = built_table_count lens t two in
-    let same = ap (λ (l : List ℕ). length l) c.deref-9.ensures.value in
+    let same = ap (λ (l : List ℕ). length l) c.deref-8.ensures.value in
     omega arith
 
 pub table_list-requires-clause-fit : goal.table_list-requires-clause-fit
@@ -305,12 +277,12 @@ table_list-requires-clause-fit c =
     let lengths = c.in_ok-parts.ensures.lengths in
     let two = c.in_ok-coded.ensures ∙ ap two_step_of c.deref.ensures.value in
     let fits = built_table_fits lens t two in
-    let moved = subst (λ (l : List ℕ). All (λ v. v < 2 ^ width_of lens) l) (sym c.deref-9.ensures.value) fits in
-    subst (λ (l : List ℕ). All (λ v. v < 2 ^ width_of l) c.deref-9.result.now) (sym c.deref-8.ensures.value) moved
+    let moved = subst (λ (l : List ℕ). All (λ v. v < 2 ^ width_of lens) l) (sym c.deref-8.ensures.value) fits in
+    subst (λ (l : List ℕ). All (λ v. v < 2 ^ width_of l) c.deref-8.result.now) (sym c.deref-7.ensures.value) moved
 
 pub with_signatures-requires-clause-few : goal.with_signatures-requires-clause-few
 with_signatures-requires-clause-few c =
-    let few = few_signatures c.args.keys.now c.sign_keys.ensures.keys c.args.seed c.args.plan.now.sig_bits c.deref-10.result.now (c.deref-10.ensures.value ∙ c.in_ok-sigs.ensures.signed) in
+    let few = few_signatures c.args.keys.now c.sign_keys.ensures.keys c.args.seed c.args.plan.now.sig_bits c.deref-9.result.now (c.deref-9.ensures.value ∙ c.in_ok-sigs.ensures.signed) in
     omega arith
 
 pub returns : goal.returns
@@ -331,16 +303,16 @@ returns c =
     let as_many : length c.deref-2.result.now ≡ length lines = ap (λ (l : List Signature). length l) (c.deref-2.ensures.value ∙ signed) ∙ length-map lines (key_signature seed plan.sig_bits) in
     let numbers = offset_numbers (block_size plan.log_bucket) (length c.deref-2.result.now) in
     let are = offsets_are plan.sig_bits seed lines (block_size plan.log_bucket) c.deref-2.result.now numbers (c.deref-2.ensures.value ∙ signed) (ap (offset_numbers (block_size plan.log_bucket)) as_many) in
-    let offsets = c.in_ok-offsets.offsets in
-    let offsets_done = least_of plan seed 0 pairs c.deref-2.result.now numbers are (Ok offsets) c.in_ok-offsets.ensures.built in
-    let codes = c.in_ok-codes.codes in
-    let codes_done = codes_of_keys plan list seed sigs lens t signed lengths two (Ok codes) (given_codes plan 1 t.bits t.codes c.deref-3.result.now sigs c.deref-3.ensures.value (Ok codes) c.in_ok-codes.ensures) in
+    let offsets = c.in_ok-functions.functions.offsets in
+    let offsets_done = least_of plan seed 0 pairs c.deref-2.result.now numbers are (Ok offsets) c.in_ok-functions.ensures.first in
+    let codes = c.in_ok-functions.functions.codes in
+    let codes_done = codes_of_keys plan list seed sigs lens t signed lengths two (Ok codes) (given_codes plan 1 t.bits t.codes c.deref-2.result.now sigs c.deref-2.ensures.value (Ok codes) c.in_ok-functions.ensures.second) in
     let escaped = c.in_ok-escaped.escaped in
-    let escaped_done = escaped_of_keys plan list seed sigs lens t signed lengths two (Ok escaped) (given_escaped plan 2 c.deref-4.result.now sigs c.deref-5.result.now lens c.deref-6.result.now t.escaped c.deref-4.ensures.value c.deref-5.ensures.value c.deref-6.ensures.value (Ok escaped) c.in_ok-escaped.ensures.built) in
+    let escaped_done = escaped_of_keys plan list seed sigs lens t signed lengths two (Ok escaped) (given_escaped plan 2 c.deref-3.result.now sigs c.deref-4.result.now lens c.deref-5.result.now t.escaped c.deref-3.ensures.value c.deref-4.ensures.value c.deref-5.ensures.value (Ok escaped) c.in_ok-escaped.ensures.built) in
     let table = c.in_ok-table.table in
-    let narrow_offsets = subst (λ (w : ℕ). w ≤ 64) offsets_done.built.width c.in_ok-offsets.ensures.narrow in
-    let wide : table.width ≡ width_of lens = c.in_ok-table.ensures.width ∙ ap width_of c.deref-8.ensures.value in
-    let listed : table.items ≡ t.table = c.in_ok-table.ensures.items ∙ c.deref-9.ensures.value in
+    let narrow_offsets = subst (λ (w : ℕ). w ≤ 64) offsets_done.built.width c.in_ok-functions.ensures.narrow in
+    let wide : table.width ≡ width_of lens = c.in_ok-table.ensures.width ∙ ap width_of c.deref-7.ensures.value in
+    let listed : table.items ≡ t.table = c.in_ok-table.ensures.items ∙ c.deref-8.ensures.value in
     let thin = width_narrow plan list seed sigs lens t signed lengths two keys c.requires.buckets in
     let count = built_table_count lens t two in
     let all = lens_many plan list seed sigs lens t signed lengths two in
@@ -350,4 +322,4 @@ returns c =
     (lcp2_done plan lines seed c.requires offsets offsets_done codes codes_done escaped escaped_done c.in_ok-prefixes.prefixes table c.in_ok-prefixes.ensures.built few narrow_offsets
     (codes_part_narrow plan list seed sigs lens t signed lengths two keys c.requires.buckets) c.in_ok-escaped.ensures.narrow c.in_ok-prefixes.ensures.narrow (wide ∙ ap width_of lengths) (listed ∙ table_is plan list seed sigs lens t signed lengths two) (omega arith) (omega arith)) in
     all_sections Lcp2 plan lines seed parts c.requires.kind c.in_ok-sections.sections.items c.in_ok-with_signatures.field-0.items own
-    few c.requires.signed c.deref-10.result.now (c.deref-10.ensures.value ∙ signed) c.in_ok-with_signatures.ensures
+    few c.requires.signed c.deref-9.result.now (c.deref-9.ensures.value ∙ signed) c.in_ok-with_signatures.ensures
