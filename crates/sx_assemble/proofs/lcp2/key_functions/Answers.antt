@@ -1,4 +1,4 @@
-use Rattle.std.proofs.Common.{◌≡◌, List, length, subst, sym, inr, Result, Err, MatchResult}
+use Rattle.std.proofs.Common.{length, subst, sym, inr, Result, MatchResult}
 use Rattle.std.proofs.lemmas.Result.{err_from_is_err_and}
 use Rattle.sx_spec_kinds.specs.Blocks.{block_size}
 use Rattle.sx_assemble.specs.KeyFunctions.{AreKeyFunctions, StopsKeyFunctions}

@@ -1,12 +1,10 @@
-use Rattle.std.proofs.Common.{◌≡◌, ◌≤◌, ◌^◌, ◌∙◌, ℕ, List, map, length, ap, sym, subst, refl, inl}
-use Rattle.sx_spec.specs.Parts.{least_width}
+use Rattle.std.proofs.Common.{◌≡◌, ◌≤◌, ◌^◌, ◌∙◌, ℕ, map, length, ap, sym, subst, refl, inl}
 use Rattle.sx_spec.specs.StaticFunction.{stuck, twins}
 use Rattle.sx_spec.specs.declared.Method.TheVariants.{Mwhc}
 use Rattle.sx_static.specs.Answer.{witness_numbers}
 use Rattle.sx_static.specs.Both.{AreBoth}
 use Rattle.sx_assemble.specs.KeyFunctions.{StopsKeyFunctions}
 use Rattle.sx_assemble.specs.Ranking.{length_numbers, offset_numbers}
-use Rattle.sx_assemble.specs.declared.parts.Stop.{Stop}
 use Rattle.sx_assemble.proofs.KeyNumbers.{first_cause, first_done, second_done, values_fit, values_many}
 use Rattle.sx_assemble.proofs.lcp2.peeled_functions.Goals as goal
 
