@@ -2,6 +2,7 @@
 #![tactic(auto)]
 
 pub mod check;
+pub mod cursor;
 pub mod encode;
 pub mod section;
 #[cfg(test)]

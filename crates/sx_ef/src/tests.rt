@@ -12,7 +12,7 @@ use sx_fields::bank::{WordBank, Words};
 use sx_fields::fields::Fields;
 use sx_steps::Steps;
 
-/// Number `i`, and it with the next, where there are such.
+/// Number `i`, and it with the next, where there are such. The next one is also read on to.
 fn read<B: WordBank + Copy, L: Ledger>(
     list: &EliasFano<B>,
     i: usize,
@@ -28,7 +28,14 @@ fn read<B: WordBank + Copy, L: Ledger>(
         None
     };
     let pair = if i < len.saturating_sub(1) {
-        Some(list.pair(i, &mut steps))
+        let first = list.cursor(i, &mut steps);
+        let second = list.next(i, first, &mut steps);
+        let pair = list.pair(i, &mut steps);
+        if pair == (first.number, second.number) {
+            Some(pair)
+        } else {
+            None
+        }
     } else {
         None
     };
@@ -118,5 +125,27 @@ fn sections(rt: HostRuntime) -> Result<(), Fail> {
         ),
         (Some(11), Some(11))
     );
+    Ok(())
+}
+
+#[test]
+fn equal_numbers_and_far_ones(rt: HostRuntime) -> Result<(), Fail> {
+    // 65 zeros and then 60, without low bits: ones at the last bit of a word, at the first of the next, and far behind
+    let words = [66, 61, u64::MAX, 1 + (1 << 61)];
+    let Ok(found) = sums_check(&words, 0, 66) else {
+        assert!(rt; false);
+        return Ok(());
+    };
+    let list = EliasFano::over(
+        rt.alloc(),
+        Words::new(&words),
+        found.body,
+        found.count,
+        found.below,
+    )?;
+    for (i, pair) in [(0, (0, 0)), (62, (0, 0)), (63, (0, 0)), (64, (0, 60))] {
+        assert_eq!(rt; at(&list, i), (Some(pair.0), Some(pair)));
+    }
+    assert_eq!(rt; at(&list, 65), (Some(60), None));
     Ok(())
 }

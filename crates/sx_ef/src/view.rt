@@ -2,8 +2,10 @@
 ghost use Rattle.std.specs.Prelude.{◌≡◌, ◌+◌, ◌<◌, ◌≤◌, ◌^◌, ◌++◌, ℕ, All, IfOk, drop, length, slice_index, true};
 ghost use Rattle.sx_spec.specs.Fields.{below_of, fields, low_words, ones_of, upper_words};
 ghost use Rattle.sx_ranksel.specs.Directory.{number_at, rank_of};
+ghost use Rattle.sx_ef.specs.Cursors.{IsCursor};
 ghost use Rattle.sx_ef.specs.Parts.{is_sums_list, low_size, numbers_in, sums_of, upper_size};
 
+use crate::cursor::Cursor;
 use crate::encode::{EfBuf, encode, low_bits};
 use std::alloc::{AllocError, Global};
 use std::sync::ledger::Ledger;
@@ -99,8 +101,7 @@ impl<B: WordBank + Copy> EliasFano<B> {
         ensures counted { steps.old < steps.new }
         ensures cost { steps.new ≤ steps.old + 38 }
     {
-        let place = self.upper.select(i as u64, steps);
-        self.number_of(i, place, steps)
+        self.cursor(i, steps).number
     }
 
     /// Number `i`, whose one stands at `place`, in at most two ticks.
@@ -115,6 +116,39 @@ impl<B: WordBank + Copy> EliasFano<B> {
     {
         let high = place - i as u64;
         (high << self.width) + self.low.get(i, steps)
+    }
+
+    /// Number `i` with the place of its one, in at most 38 ticks.
+    #[inline]
+    pub fn cursor<L: Ledger>(&self, i: usize, steps: &mut Steps<L>) -> Cursor
+        requires { i < length (⟦<EliasFano<B> as Fields>⟧.items self.now) }
+        ensures cursor { IsCursor (ones_of self.now.upper.bits
+            (number_at self.now.upper.first (B.words_of self.now.upper.bank)))
+            (⟦<EliasFano<B> as Fields>⟧.items self.now) i result }
+        ensures counted { steps.old < steps.new }
+        ensures cost { steps.new ≤ steps.old + 38 }
+    {
+        let place = self.upper.select(i as u64, steps);
+        let number = self.number_of(i, place, steps);
+        Cursor { place, number }
+    }
+
+    /// Number `i + 1` with the place of its one, read on from those of number `i`, in at most 38 ticks.
+    #[inline]
+    pub fn next<L: Ledger>(&self, i: usize, at: Cursor, steps: &mut Steps<L>) -> Cursor
+        requires within { i + 1 < length (⟦<EliasFano<B> as Fields>⟧.items self.now) }
+        requires at { IsCursor (ones_of self.now.upper.bits
+            (number_at self.now.upper.first (B.words_of self.now.upper.bank)))
+            (⟦<EliasFano<B> as Fields>⟧.items self.now) i at }
+        ensures cursor { IsCursor (ones_of self.now.upper.bits
+            (number_at self.now.upper.first (B.words_of self.now.upper.bank)))
+            (⟦<EliasFano<B> as Fields>⟧.items self.now) (i + 1) result }
+        ensures counted { steps.old < steps.new }
+        ensures cost { steps.new ≤ steps.old + 38 }
+    {
+        let place = self.upper.next(i as u64, at.place, steps);
+        let number = self.number_of(i + 1, place, steps);
+        Cursor { place, number }
     }
 
     /// Numbers `i` and `i + 1`, in at most 76 ticks.

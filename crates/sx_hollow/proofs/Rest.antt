@@ -5,16 +5,11 @@ use Rattle.sx_spec_strings.specs.Numbers.{iterate}
 use Rattle.sx_spec_strings.specs.Bits.{Bits}
 use Rattle.sx_spec_strings.proofs.NumberLaws.{iterate_still}
 use Rattle.sx_spec_kinds.specs.Hollow.{Stand, Walk, goes, ends, lost, step, step_at, end_of, walk_of}
+use Rattle.sx_hollow.specs.Walks.{RestOf}
 use Rattle.sx_hollow.proofs.Descents.{step_inner, lost_at}
 
 module _ (left skip : List ℕ) (n : ℕ) (x : Bits) where
-  -- more steps than leaves from here lead to the end of the whole walk
-  pub record RestOf (w : Walk) (leaves : ℕ) : Type 0 where
-    pub turns : ℕ
-    pub enough : leaves < turns
-    pub same : end_of (iterate turns (step left skip x) w) ≡ walk_of left skip n x
-
-  pub rest_starts : (s : Stand) → s.node ≡ 0 → s.leaves ≡ n → s.first ≡ 0 → s.pos ≡ 0 → RestOf (goes s) s.leaves
+  pub rest_starts : (s : Stand) → s.node ≡ 0 → s.leaves ≡ n → s.first ≡ 0 → s.pos ≡ 0 → RestOf left skip n x (goes s) s.leaves
   unfolding walk_of
   rest_starts s node leaves first pos = record {
     turns = suc n;
@@ -22,7 +17,7 @@ module _ (left skip : List ℕ) (n : ℕ) (x : Bits) where
     same = λ i. end_of (iterate (suc n) (step left skip x) (goes (record { node = node i; leaves = leaves i; first = first i; pos = pos i })));
   }
 
-  rest_more : (turns : ℕ) (w next : Walk) (leaves fewer : ℕ) → leaves < turns → fewer < leaves → end_of (iterate turns (step left skip x) w) ≡ walk_of left skip n x → next ≡ step left skip x w → RestOf next fewer
+  rest_more : (turns : ℕ) (w next : Walk) (leaves fewer : ℕ) → leaves < turns → fewer < leaves → end_of (iterate turns (step left skip x) w) ≡ walk_of left skip n x → next ≡ step left skip x w → RestOf left skip n x next fewer
   rest_more zero w next leaves fewer enough less same is = absurd (omega arith)
   rest_more (suc turns) w next leaves fewer enough less same is = record {
     turns = turns;
@@ -31,7 +26,7 @@ module _ (left skip : List ℕ) (n : ℕ) (x : Bits) where
   }
 
   -- one step on
-  pub rest_steps : (w next : Walk) (leaves fewer : ℕ) → RestOf w leaves → fewer < leaves → next ≡ step left skip x w → RestOf next fewer
+  pub rest_steps : (w next : Walk) (leaves fewer : ℕ) → RestOf left skip n x w leaves → fewer < leaves → next ≡ step left skip x w → RestOf left skip n x next fewer
   rest_steps w next leaves fewer h less is = rest_more h.turns w next leaves fewer h.enough less h.same is
 
   ends_in : (turns : ℕ) (w end : Walk) (leaves : ℕ) → leaves < turns → end ≡ step left skip x w → step left skip x end ≡ end → end_of (iterate turns (step left skip x) w) ≡ walk_of left skip n x → end_of end ≡ walk_of left skip n x
@@ -42,11 +37,11 @@ module _ (left skip : List ℕ) (n : ℕ) (x : Bits) where
       ∙ same
 
   -- a step that is lost
-  pub rest_lost : (w : Walk) (leaves : ℕ) → RestOf w leaves → lost ≡ step left skip x w → None ≡ walk_of left skip n x
+  pub rest_lost : (w : Walk) (leaves : ℕ) → RestOf left skip n x w leaves → lost ≡ step left skip x w → None ≡ walk_of left skip n x
   rest_lost w leaves h is = ends_in h.turns w lost leaves h.enough is refl h.same
 
   -- no bit of the string is left
-  pub rest_short : (s : Stand) → RestOf (goes s) s.leaves → 1 < s.leaves → length x ≤ s.pos → None ≡ walk_of left skip n x
+  pub rest_short : (s : Stand) → RestOf left skip n x (goes s) s.leaves → 1 < s.leaves → length x ≤ s.pos → None ≡ walk_of left skip n x
   rest_short s h more short =
       rest_lost (goes s) s.leaves h
       (lost_at (slice_index left s.node) (slice_index skip s.node) x s (inr (inr (omega arith)))
@@ -59,8 +54,8 @@ module _ (left skip : List ℕ) (n : ℕ) (x : Bits) where
   step_at_none s leaves none = rw none refl
 
   -- one leaf, or none
-  pub rest_leaf : (s : Stand) → RestOf (goes s) s.leaves → s.leaves ≡ 1 → Some s.first ≡ walk_of left skip n x
+  pub rest_leaf : (s : Stand) → RestOf left skip n x (goes s) s.leaves → s.leaves ≡ 1 → Some s.first ≡ walk_of left skip n x
   rest_leaf s h one = ends_in h.turns (goes s) (ends s.first) s.leaves h.enough (step_at_leaf s s.leaves one) refl h.same
 
-  pub rest_none : (s : Stand) → RestOf (goes s) s.leaves → s.leaves ≡ 0 → None ≡ walk_of left skip n x
+  pub rest_none : (s : Stand) → RestOf left skip n x (goes s) s.leaves → s.leaves ≡ 0 → None ≡ walk_of left skip n x
   rest_none s h none = rest_lost (goes s) s.leaves h (step_at_none s s.leaves none)

@@ -216,9 +216,7 @@ impl<B: WordBank + Copy> HollowDistView<B> {
         ensures counted { steps.old ≤ steps.new }
         ensures cost { steps.new ≤ steps.old + (152 + reserve at.now.place) }
         ensures end { rest ≡ 0 → steps.new ≤ steps.old + (76 + reserve at.now.place) }
-        ensures zero { steps.new + reserve result.zero
-            ≤ steps.old + (152 + reserve at.now.place) }
-        ensures one { steps.new + reserve result.one
+        ensures children { steps.new + reserve result.children
             ≤ steps.old + (152 + reserve at.now.place) }
     {
         if let Some(entry) = self.kept(at, steps) {
@@ -234,12 +232,11 @@ impl<B: WordBank + Copy> HollowDistView<B> {
             node: at.node,
             left,
             skip,
-            zero: NOT_KEPT,
-            one: NOT_KEPT,
+            children: NOT_KEPT,
         }
     }
 
-    /// What is kept of the inner node at which a walk stands, if it is kept. At most 4 words are read,
+    /// What is kept of the inner node at which a walk stands, if it is kept. At most 2 words are read,
     /// and where it isn't, at most one.
     #[inline(always)]
     fn kept<L: Ledger>(&self, at: &Stand, steps: &mut Steps<L>) -> Option<Entry>
@@ -248,23 +245,26 @@ impl<B: WordBank + Copy> HollowDistView<B> {
         ensures skip { IfSome result (λ e. e.skip
             ≡ slice_index (gaps (sums_read self.now.skip)) at.now.node) }
         ensures counted { steps.old ≤ steps.new }
-        ensures cost { IfSome result (λ _. steps.new ≤ steps.old + 4) }
+        ensures cost { IfSome result (λ _. steps.new ≤ steps.old + 2) }
         ensures missed { IfNone result (steps.new ≤ steps.old + reserve at.now.place) }
     {
         if at.place == NOT_KEPT {
             return None;
         }
         let first = SIZE * at.place as usize;
-        if first + 3 >= self.top.words() || self.top.word(first, steps) != at.node {
+        if first + 1 >= self.top.words() {
             return None;
         }
-        let places = self.top.word(first + 3, steps);
+        let low = self.top.word(first, steps);
+        if low % HALF != at.node {
+            return None;
+        }
+        let high = self.top.word(first + 1, steps);
         Some(Entry {
             node: at.node,
-            left: self.top.word(first + 1, steps),
-            skip: self.top.word(first + 2, steps),
-            zero: (places % HALF) as u32,
-            one: (places / HALF) as u32,
+            left: low / HALF,
+            skip: high % HALF,
+            children: (high / HALF) as u32,
         })
     }
 }

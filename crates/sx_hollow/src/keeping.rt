@@ -7,7 +7,7 @@ ghost use Rattle.sx_hollow.specs.Tops.{AreKept};
 ghost use Rattle.sx_hollow.specs.Views.{sums_read};
 
 use crate::gap::gap;
-use crate::top::{HALF, NOT_KEPT, SIZE};
+use crate::top::{HALF, SIZE};
 use std::alloc::{AllocError, Global};
 use std::marker::Brand;
 use std::sync::ledger::{Blank, Ledger};
@@ -16,7 +16,7 @@ use sx_fields::bank::WordBank;
 use sx_steps::Steps;
 
 /// One of so many nodes is kept at most, and none with fewer leaves.
-const SHARE: u64 = 64;
+const SHARE: u64 = 32;
 
 /// A node that waits to be read, with its leaves.
 #[derive(Clone, Copy)]
@@ -25,14 +25,31 @@ struct Waiting {
     leaves: u64,
 }
 
-/// Lets a node wait if it has so many leaves or more, and tells its place.
-fn wait(queue: &mut Vec<Waiting>, node: u64, leaves: u64, many: u64) -> Result<u32, AllocError> {
-    let place = queue.len();
-    if leaves < many || place >= NOT_KEPT as usize {
-        return Ok(NOT_KEPT);
+/// Lets a node wait if it has so many leaves or more, and tells whether it has.
+fn wait(queue: &mut Vec<Waiting>, node: u64, leaves: u64, many: u64) -> Result<bool, AllocError> {
+    if leaves < many {
+        return Ok(false);
     }
     queue.push(Waiting { node, leaves })?;
-    Ok(place as u32)
+    Ok(true)
+}
+
+/// Lets the children of a node wait, and tells the place of the left one. The right one has the next
+/// place, also where the left one doesn't wait.
+fn wait_for_both(
+    queue: &mut Vec<Waiting>,
+    at: Waiting,
+    below: u64,
+    many: u64,
+) -> Result<u64, AllocError>
+    ensures { IfOk result (λ place. place < 2 ^ 32) }
+{
+    let place = queue.len() as u64;
+    let left = wait(queue, at.node.saturating_add(1), below, many)?;
+    let rest = at.leaves.saturating_sub(below);
+    wait(queue, at.node.saturating_add(below), rest, many)?;
+    let first = if left { place } else { place.saturating_sub(1) };
+    Ok(first % HALF)
 }
 
 /// The words of the first `most` nodes with so many leaves or more, row by row from the root on.
@@ -47,6 +64,7 @@ fn rows_from_root<B: WordBank + Copy, L: Ledger>(
 ) -> Result<Vec<u64>, AllocError>
     requires left { nodes < length (sums_read left.now) }
     requires skip { nodes < length (sums_read skip.now) }
+    requires small { nodes < 2 ^ 32 }
     requires few { most < 2 ^ 32 }
     ensures kept { IfOk result
         (λ v. AreKept (gaps (sums_read left.now)) (gaps (sums_read skip.now)) v.items) }
@@ -56,18 +74,22 @@ fn rows_from_root<B: WordBank + Copy, L: Ledger>(
     let mut queue = Vec::new(alloc);
     wait(&mut queue, 0, nodes.saturating_add(1), many)?;
     for place in 0..most {
-        // lists of no trie may lead past the nodes
-        if place >= queue.len() || queue[place].node >= nodes {
+        if place >= queue.len() {
             break;
         }
-        let Waiting { node, leaves } = queue[place];
-        let below = gap(left, node as usize, steps);
-        let skipped = gap(skip, node as usize, steps);
-        let zero = wait(&mut queue, node + 1, below, many)?;
-        let rest = leaves.saturating_sub(below);
-        let one = wait(&mut queue, node.saturating_add(below), rest, many)?;
-        let places = u64::from(zero) + HALF * u64::from(one);
-        words.extend_from_slice(&[node, below, skipped, places])?;
+        let at = queue[place];
+        // lists of no trie may lead past the nodes
+        if at.node >= nodes {
+            break;
+        }
+        let below = gap(left, at.node as usize, steps);
+        let skipped = gap(skip, at.node as usize, steps);
+        // lists of no trie may hold more than half a word does
+        if below >= HALF || skipped >= HALF {
+            break;
+        }
+        let children = wait_for_both(&mut queue, at, below, many)?;
+        words.extend_from_slice(&[at.node + HALF * below, skipped + HALF * children])?;
     }
     Ok(words)
 }

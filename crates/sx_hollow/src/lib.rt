@@ -3,6 +3,7 @@
 //! nodes of a trie of some of them.
 #![tactic(auto)]
 
+mod cursors;
 mod dist;
 mod gap;
 mod keeping;

@@ -1,5 +1,5 @@
-//! The pairs of the hollow trie of delimiters: of each node the fragments of the keys that visit it,
-//! and where a walk goes on with them.
+//! The pairs of the hollow trie of delimiters: of each node the fragments of the keys that visit
+//! it, and where a walk goes on with them.
 
 ghost use Rattle.std.specs.Prelude.{◌≡◌, ◌+◌, ◌≤◌, List, ◌++◌, IfOk, OnOk, length, map};
 ghost use Rattle.std.specs.List.{AllByRecursion};
@@ -65,9 +65,12 @@ fn push_leaves(
     Ok(())
 }
 
-/// The pairs of the keys and the delimiters that are the keys with these numbers, which rise
-/// strictly: those of the inner nodes in preorder, and then those of the leaves, at each node by the
-/// fragment. At most as many as keys and delimiters.
+/// The pairs of keys, where the delimiters are the keys with these numbers, which rise strictly:
+/// those of the inner nodes in preorder, and then those of the leaves, at each node in the order of
+/// the fragments. They are at most as many as keys and delimiters together.
+///
+/// At each node a search finds the keys that visit it, and of keys with the same fragment only the
+/// first and the last few are looked at.
 ///
 /// # Errors
 /// Only for want of memory.

@@ -52,7 +52,7 @@ fn pairs_of_few_keys(rt: HostRuntime) -> Result<(), Fail> {
     keys.push(b"d")?;
     assert_eq!(rt; keys.len(), 4);
     let found = pairs_of_three(rt.alloc(), &keys)?;
-    // the bits of a, b, c and d are 01100001, 01100010, 01100011 and 01100100, and eight zero bits each
+    // a, b, c and d are 01100001, 01100010, 01100011 and 01100100, with eight zero bits behind each
     let want = [
         pair(0, 0, 0, 6, Turn::Follow),
         pair(0, 3, 0, 6, Turn::Right),

@@ -3,9 +3,10 @@
 /// The place of a node that isn't kept.
 pub(crate) const NOT_KEPT: u32 = u32::MAX;
 
-/// How many words a node that is kept takes: its number, its two numbers in the lists, and the places
-/// of its children, that of the left one in the lower half of the word.
-pub(crate) const SIZE: usize = 4;
+/// How many words a node that is kept takes. The lower and the upper half of the first are its number and
+/// that of the leaves under its left child, and those of the second how many bits it skips and where its
+/// children are kept.
+pub(crate) const SIZE: usize = 2;
 
 /// What a half of a word holds.
 pub(crate) const HALF: u64 = 1 << 32;
@@ -19,8 +20,6 @@ pub(crate) struct Entry {
     pub(crate) left: u64,
     /// How many bits it skips.
     pub(crate) skip: u64,
-    /// Where the left child is kept. A walk looks whether it is that node.
-    pub(crate) zero: u32,
-    /// Where the right child is kept.
-    pub(crate) one: u32,
+    /// Where the left child is kept, and the right one after it. A walk looks whether it is that node.
+    pub(crate) children: u32,
 }

@@ -1,13 +1,13 @@
 //! How a walk goes on from a node, or ends there, by the turn that a function gives its string.
 
-ghost use Rattle.std.specs.Prelude.{◌≡◌, ◌+◌, ◌<◌, ◌≤◌, ◌^◌, length, max};
+ghost use Rattle.std.specs.Prelude.{◌≡◌, ◌+◌, ◌<◌, ◌≤◌, ◌^◌, length};
 ghost use Rattle.sx_spec_kinds.specs.Hollow.{descend, end_of};
 ghost use Rattle.sx_spec_kinds.specs.HollowDistributor.{turn_at_inner, turn_at_leaf};
 ghost use Rattle.sx_bits.specs.Views.{bits_of};
 ghost use Rattle.sx_hollow.specs.Dist.{IfGoes, IsLater, reserve, walk_as};
 ghost use Rattle.sx_hollow.specs.Walks.{stand_of};
 
-use crate::top::Entry;
+use crate::top::{Entry, NOT_KEPT};
 use crate::walk::Stand;
 use sx_bits::BitView;
 
@@ -31,6 +31,17 @@ pub(crate) enum Walk {
     Lost,
 }
 
+/// Where a child of a node is kept, if the node is.
+#[inline(always)]
+fn child_place(entry: &Entry, right: bool) -> u32
+    ensures { reserve result ≤ reserve entry.now.children }
+{
+    if entry.children == NOT_KEPT {
+        return NOT_KEPT;
+    }
+    entry.children + u32::from(right)
+}
+
 /// On from an inner node by the next bit of the string that isn't skipped, if it has one.
 #[inline(always)]
 fn follow(at: &Stand, entry: &Entry, view: &BitView<'_>) -> Walk
@@ -42,8 +53,7 @@ fn follow(at: &Stand, entry: &Entry, view: &BitView<'_>) -> Walk
     ensures value { walk_as result ≡ descend entry.now.left entry.now.skip (bits_of view.now)
         (stand_of at.now) }
     ensures later { IfGoes result (IsLater (length (bits_of view.now)) at.now) }
-    ensures place { IfGoes result (λ s. reserve s.place
-        ≤ max (reserve entry.now.zero) (reserve entry.now.one)) }
+    ensures place { IfGoes result (λ s. reserve s.place ≤ reserve entry.now.children) }
 {
     if view.len() <= at.pos {
         return Walk::Lost;
@@ -51,11 +61,7 @@ fn follow(at: &Stand, entry: &Entry, view: &BitView<'_>) -> Walk
     let Some(next) = at.descend(entry.left, entry.skip, view) else {
         return Walk::Lost;
     };
-    let place = if next.first == at.first {
-        entry.zero
-    } else {
-        entry.one
-    };
+    let place = child_place(entry, next.first != at.first);
     Walk::Goes(Stand { place, ..next })
 }
 
@@ -70,8 +76,7 @@ pub(crate) fn turned(at: &Stand, entry: &Entry, turn: u64, view: &BitView<'_>) -
     ensures value { walk_as result ≡ turn_at_inner entry.now.left entry.now.skip
         (bits_of view.now) (stand_of at.now) turn }
     ensures later { IfGoes result (IsLater (length (bits_of view.now)) at.now) }
-    ensures place { IfGoes result (λ s. reserve s.place
-        ≤ max (reserve entry.now.zero) (reserve entry.now.one)) }
+    ensures place { IfGoes result (λ s. reserve s.place ≤ reserve entry.now.children) }
 {
     match turn {
         FOLLOW => follow(at, entry, view),

@@ -1,16 +1,16 @@
 //! The walk of a string by the lists of a hollow trie.
 
-ghost use Rattle.std.specs.Prelude.{◌≡◌, ◌+◌, ◌*◌, ◌<◌, ◌≤◌, ◌^◌, IfOk, IfSome, length, max};
+ghost use Rattle.std.specs.Prelude.{◌≡◌, ◌+◌, ◌-◌, ◌*◌, ◌<◌, ◌≤◌, ◌^◌, IfOk, IfSome, length, max};
 ghost use Rattle.sx_spec.specs.Reply.{gaps};
-ghost use Rattle.sx_spec_kinds.specs.Hollow.{goes, step, walk_of};
+ghost use Rattle.sx_spec_kinds.specs.Hollow.{goes, walk_of};
 ghost use Rattle.sx_bits.specs.Views.{bits_of};
 ghost use Rattle.sx_hollow.specs.Tops.{AreKept, IsEntryOf};
 ghost use Rattle.sx_hollow.specs.Views.{sums_read};
-ghost use Rattle.sx_hollow.specs.Walks.{stand_of, walk_on};
+ghost use Rattle.sx_hollow.specs.Walks.{RestOf, stand_of};
 
-use crate::gap::gap;
+use crate::cursors::Cursors;
 use crate::keeping::top_of;
-use crate::top::{Entry, HALF, NOT_KEPT, SIZE};
+use crate::top::{Entry, HALF, SIZE};
 use crate::walk::Stand;
 use std::alloc::{AllocError, Global};
 use std::sync::ledger::Ledger;
@@ -85,82 +85,77 @@ impl<B: WordBank + Copy> HollowView<B> {
             if len <= at.pos {
                 return None;
             }
-            at = self.step(&at, view, steps)?;
+            let entry = match self.kept(&at, steps) {
+                Some(entry) => entry,
+                None => return self.answer_by_lists(at, view, steps),
+            };
+            at = at.step(&entry, view)?;
         }
-        if at.leaves == 1 { Some(at.first) } else { None }
+        at.leaf()
     }
 
-    /// The step of a walk from an inner node, or none where the walk is lost. At most 156 words are
-    /// read.
-    #[inline(always)]
-    fn step<L: Ledger>(&self, at: &Stand, view: &BitView<'_>, steps: &mut Steps<L>) -> Option<Stand>
-        requires more { 1 < at.now.leaves }
-        requires node { at.now.node + at.now.leaves ≤ self.now.keys }
-        requires first { at.now.first + at.now.leaves ≤ self.now.keys }
-        requires short { at.now.pos < length (bits_of view.now) }
-        ensures value { walk_on result ≡ step (gaps (sums_read self.now.left))
-            (gaps (sums_read self.now.skip)) (bits_of view.now) (goes (stand_of at.now)) }
-        ensures fewer { IfSome result (λ s. s.leaves < at.now.leaves) }
-        ensures node { IfSome result (λ s. s.node + s.leaves ≤ self.now.keys) }
-        ensures first { IfSome result (λ s. s.first + s.leaves ≤ self.now.keys) }
-        ensures farther { IfSome result (λ s. at.now.pos < s.pos) }
-        ensures short { IfSome result (λ s. s.pos ≤ length (bits_of view.now)) }
+    /// The leaf at which a walk ends that stands at an inner node and goes on by the lists alone.
+    fn answer_by_lists<L: Ledger>(
+        &self,
+        mut at: Stand,
+        view: &BitView<'_>,
+        steps: &mut Steps<L>,
+    ) -> Option<u64>
+        requires more { 1 < at.leaves }
+        requires node { at.node + at.leaves ≤ self.now.keys }
+        requires first { at.first + at.leaves ≤ self.now.keys }
+        requires short { at.pos < length (bits_of view.now) }
+        requires rest { RestOf (gaps (sums_read self.now.left)) (gaps (sums_read self.now.skip))
+            self.now.keys (bits_of view.now) (goes (stand_of at)) at.leaves }
+        ensures value { result ≡ walk_of (gaps (sums_read self.now.left))
+            (gaps (sums_read self.now.skip)) self.now.keys (bits_of view.now) }
         ensures counted { steps.old ≤ steps.new }
-        ensures cost { steps.new ≤ steps.old + 156 }
+        ensures cost { steps.new ≤ steps.old + 152 * (length (bits_of view.now) - at.pos) }
     {
-        let entry = self.entry(at, steps);
-        let next = at.descend(entry.left, entry.skip, view)?;
-        let place = if next.first == at.first {
-            entry.zero
-        } else {
-            entry.one
-        };
-        Some(Stand { place, ..next })
+        let mut from = Cursors::at(&self.left, &self.skip, at.node as usize, steps);
+        loop {
+            let to = from.next(&self.left, &self.skip, at.node as usize, steps);
+            let next = at.descend(to.left_above(&from), to.skip_above(&from), view)?;
+            if next.leaves <= 1 {
+                return next.leaf();
+            }
+            // a walk is lost where its string has no bit left
+            if view.len() <= next.pos {
+                return None;
+            }
+            // each left child is the next node, to which both lists are read on
+            from = if next.node == at.node + 1 {
+                to
+            } else {
+                Cursors::at(&self.left, &self.skip, next.node as usize, steps)
+            };
+            at = next;
+        }
     }
 
-    /// What is kept of the inner node at which a walk stands, if it is kept. At most 4 words are read.
+    /// What is kept of the inner node at which a walk stands, if it is kept. At most 2 words are read.
     #[inline(always)]
     fn kept<L: Ledger>(&self, at: &Stand, steps: &mut Steps<L>) -> Option<Entry>
         ensures node { IfSome result (λ e. e.node ≡ at.now.node) }
         ensures numbers { IfSome result (IsEntryOf (gaps (sums_read self.now.left))
             (gaps (sums_read self.now.skip))) }
         ensures counted { steps.old ≤ steps.new }
-        ensures cost { steps.new ≤ steps.old + 4 }
+        ensures cost { steps.new ≤ steps.old + 2 }
     {
         let first = SIZE * at.place as usize;
-        if first + 3 >= self.top.words() || self.top.word(first, steps) != at.node {
+        if first + 1 >= self.top.words() {
             return None;
         }
-        let places = self.top.word(first + 3, steps);
+        let low = self.top.word(first, steps);
+        if low % HALF != at.node {
+            return None;
+        }
+        let high = self.top.word(first + 1, steps);
         Some(Entry {
             node: at.node,
-            left: self.top.word(first + 1, steps),
-            skip: self.top.word(first + 2, steps),
-            zero: (places % HALF) as u32,
-            one: (places / HALF) as u32,
+            left: low / HALF,
+            skip: high % HALF,
+            children: (high / HALF) as u32,
         })
-    }
-
-    /// The numbers of the inner node at which a walk stands. At most 156 words are read.
-    #[inline(always)]
-    fn entry<L: Ledger>(&self, at: &Stand, steps: &mut Steps<L>) -> Entry
-        requires more { 1 < at.now.leaves }
-        requires node { at.now.node + at.now.leaves ≤ self.now.keys }
-        ensures node { result.node ≡ at.now.node }
-        ensures numbers { IsEntryOf (gaps (sums_read self.now.left))
-            (gaps (sums_read self.now.skip)) result }
-        ensures counted { steps.old ≤ steps.new }
-        ensures cost { steps.new ≤ steps.old + 156 }
-    {
-        if let Some(entry) = self.kept(at, steps) {
-            return entry;
-        }
-        Entry {
-            node: at.node,
-            left: gap(&self.left, at.node as usize, steps),
-            skip: gap(&self.skip, at.node as usize, steps),
-            zero: NOT_KEPT,
-            one: NOT_KEPT,
-        }
     }
 }

@@ -127,38 +127,33 @@ fn one_key_or_none(rt: HostRuntime) -> Result<(), Fail> {
 
 #[test]
 fn kept_nodes(rt: HostRuntime) -> Result<(), Fail> {
-    // 256 leaves without a skip: the root's right child is the last one, and below its left child each
-    // left child is a leaf; so the sums are 0, 255, 256 and so on
+    // 2,048 leaves without a skip: the root's right child is the last one, and below its left child each
+    // left child is a leaf; so the sums are 0, 2047, 2048 and so on, and the first 63 nodes are kept
     const EVEN: u64 = 0x5555_5555_5555_5555;
-    let left = [
-        256,
-        510,
-        1,
-        0,
-        0,
-        0,
-        EVEN,
-        EVEN,
-        EVEN,
-        EVEN,
-        EVEN,
-        EVEN,
-        EVEN,
-        EVEN >> 2,
-    ];
-    let skip = [256, 1, u64::MAX, u64::MAX, u64::MAX, u64::MAX];
-    let rows: [(&[u8], u64); 7] = [
+    let mut left = [0; 98];
+    left[0] = 2048;
+    left[1] = 4094;
+    left[2] = 1;
+    for word in 34..97 {
+        left[word] = EVEN;
+    }
+    left[97] = EVEN >> 2;
+    let mut skip = [u64::MAX; 34];
+    skip[0] = 2048;
+    skip[1] = 1;
+    let rows: [(&[u8], u64); 8] = [
         (b"", 0),
-        (b"\x80", 255),
+        (b"\x80", 2047),
         (b"\x40", 1),
         (b"\x60", 2),
         (b"\x70", 3),
         (b"\x7f\x80", 8),
         (b"\x7f\xff\xff\xff\xff\xff\xff\xff", 63),
+        (b"\x7f\xff\xff\xff\xff\xff\xff\xff\xfe", 70),
     ];
     for (line, want) in rows {
         assert!(rt; line.len() < 20);
-        assert_eq!(rt; walk(rt.alloc(), &left, &skip, 256, line)?, Some(want));
+        assert_eq!(rt; walk(rt.alloc(), &left, &skip, 2048, line)?, Some(want));
     }
     Ok(())
 }

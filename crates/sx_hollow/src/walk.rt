@@ -1,11 +1,11 @@
 //! Where the walk of a string stands in a hollow trie, and how it goes on.
 
-ghost use Rattle.std.specs.Prelude.{◌≡◌, ◌+◌, ◌<◌, ◌≤◌, ◌^◌, IfSome, length};
+ghost use Rattle.std.specs.Prelude.{◌≡◌, ◌+◌, ◌<◌, ◌≤◌, ◌^◌, IfSome, None, Some, length};
 ghost use Rattle.sx_spec_kinds.specs.Hollow.{child, descend, goes};
 ghost use Rattle.sx_bits.specs.Views.{bits_of};
 ghost use Rattle.sx_hollow.specs.Walks.{stand_of, walk_on};
 
-use crate::top::NOT_KEPT;
+use crate::top::{Entry, NOT_KEPT};
 use sx_bits::BitView;
 
 /// Where a walk stands: at a node or at a leaf, from leaf `first` on, after `pos` bits of the string.
@@ -78,5 +78,40 @@ impl Stand {
         }
         let place = self.pos + skip as u32;
         Some(self.child(left, place, view.bit(place)))
+    }
+
+    /// On from an inner node of which an entry is kept.
+    #[inline(always)]
+    pub(crate) fn step(&self, entry: &Entry, view: &BitView<'_>) -> Option<Stand>
+        requires node { self.now.node + self.now.leaves < 2 ^ 32 }
+        requires first { self.now.first + self.now.leaves < 2 ^ 32 }
+        requires short { self.now.pos < length (bits_of view.now) }
+        ensures value { walk_on result
+            ≡ descend entry.now.left entry.now.skip (bits_of view.now) (stand_of self.now) }
+        ensures fewer { IfSome result (λ s. s.leaves < self.now.leaves) }
+        ensures node { IfSome result
+            (λ s. s.node + s.leaves ≤ self.now.node + self.now.leaves) }
+        ensures first { IfSome result
+            (λ s. s.first + s.leaves ≤ self.now.first + self.now.leaves) }
+        ensures farther { IfSome result (λ s. self.now.pos < s.pos) }
+        ensures short { IfSome result (λ s. s.pos ≤ length (bits_of view.now)) }
+    {
+        let next = self.descend(entry.left, entry.skip, view)?;
+        let right = u32::from(next.first != self.first);
+        let place = entry.children.wrapping_add(right);
+        Some(Stand { place, ..next })
+    }
+
+    /// The leaf, where there is one and no other.
+    #[inline(always)]
+    pub(crate) fn leaf(&self) -> Option<u64>
+        ensures one { self.now.leaves ≡ 1 → result ≡ Some self.now.first }
+        ensures other { (self.now.leaves ≡ 1 → ⊥) → result ≡ None }
+    {
+        if self.leaves == 1 {
+            Some(self.first)
+        } else {
+            None
+        }
     }
 }

@@ -1,70 +1,49 @@
--- A word's one number k, found by halves.
-use Rattle.std.proofs.Common.{◌≡◌, ◌≢◌, ℕ, ◌+◌, ◌-◌, ◌/◌, ◌%◌, ◌^◌, ◌<◌, ◌≤◌, refl, sym, ap, ◌∙◌, arith, lit<}
+-- A word's one number k, found by its byte.
+use Rattle.std.proofs.Common.{◌≡◌, ℕ, suc, ◌+◌, ◌-◌, ◌*◌, ◌/◌, ◌%◌, ◌^◌, ◌<◌, ◌≤◌, refl, sym, ap, ◌∙◌, arith, lit<}
 use Rattle.std.specs.Int.{bit_at}
 use Rattle.std.specs.Int.Count.{ones}
-use Rattle.std.proofs.lemmas.Nat.{ones-le, mod_below, shr-shr}
-use Rattle.std.proofs.Math.Nat.{mod-eq_of_lt, div-one, pow-zero, mod-one}
-use Rattle.sx_ranksel.proofs.Ranks.{ones_cut, no_ones}
+use Rattle.std.proofs.Math.Nat.{mul-le-mul_left}
+use Rattle.std.proofs.lemmas.Nat.{mod_below, shr-shr}
+use Rattle.sx_ranksel.proofs.Ranks.{ones_cut, rank_ones, rank_more, rank_mono}
 
--- so many bits of the word from a place on hold the one that is sought, with so many ones below it there
-pub record Holds (word k place left size : ℕ) : Type 0 where
-  pub some_left : left < ones (word / 2 ^ place % 2 ^ size)
-  pub below : ones (word % 2 ^ place) + left ≡ k
-  pub inside : place + size ≤ 64
-  pub some_bits : 0 < size
+-- more bits have no fewer ones
+pub ones_mono : (x m n : ℕ) → m ≤ n → ones (x % 2 ^ m) ≤ ones (x % 2 ^ n)
+ones_mono x m n le =
+    let fewer = rank_mono x m n le in
+    let low = rank_ones m x in
+    let high = rank_ones n x in
+    omega arith
 
-pub whole_word : (word k : ℕ) → word < 2 ^ 64 → k < ones word → Holds word k 0 k 64
-whole_word word k small inside = record {
-  some_left =
-      let whole : word / 2 ^ 0 % 2 ^ 64 ≡ word = ap (λ m. m % 2 ^ 64) (ap (λ m. word / m) (pow-zero 2) ∙ div-one word) ∙ mod-eq_of_lt small in
-      let same = ap ones whole in
-      omega arith;
-  below = let none : ones (word % 2 ^ 0) ≡ 0 = ap ones (ap (λ m. word % m) (pow-zero 2) ∙ mod-one word) ∙ no_ones in omega arith;
-  inside = omega arith;
-  some_bits = omega arith;
-}
+-- a piece that ends after so many ones is none of those before: so the pieces before are the first ones
+pub not_after : (word size k pieces piece : ℕ) → pieces < piece → ones (word % 2 ^ (size * piece)) ≤ k → k < ones (word % 2 ^ (size * (pieces + 1))) → ⊥
+not_after word size k pieces piece less past high =
+    let order : size * (pieces + 1) ≤ size * piece = mul-le-mul_left size (omega arith) in
+    let more = ones_mono word (size * (pieces + 1)) (size * piece) order in
+    omega arith
 
-module _ (word k place left size half : ℕ) (h : Holds word k place left size) where
-  -- it stands in the low half, and so in what is as long as the high one
-  pub low_half : half + half ≤ size → 0 < size - half → left < ones (word / 2 ^ place % 2 ^ half) → Holds word k place left (size - half)
-  low_half less some inside =
-      let m = word / 2 ^ place in
-      let e : (size - half - half) + half ≡ size - half = omega arith in
-      let cut : ones (m % 2 ^ (size - half)) ≡ ones (m / 2 ^ half % 2 ^ (size - half - half)) + ones (m % 2 ^ half) =
-      ap (λ n. ones (m % 2 ^ n)) (sym e) ∙ ones_cut m (size - half - half) half in
-      record {
-        some_left = omega (arith, cut, inside);
-        below = h.below;
-        inside = omega (arith, h.inside);
-        some_bits = some;
-      }
+module _ (word k byte : ℕ) (low : ones (word % 2 ^ byte) ≤ k) where
+  abbrev rest : ℕ
+  rest = word / 2 ^ byte
 
-  -- or else in the high half
-  pub high_half : half < size → ones (word / 2 ^ place % 2 ^ half) ≤ left → Holds word k (place + half) (left - ones (word / 2 ^ place % 2 ^ half)) (size - half)
-  high_half less past =
-      let m = word / 2 ^ place in
-      let e : (size - half) + half ≡ size = omega arith in
-      let cut : ones (m % 2 ^ size) ≡ ones (word / 2 ^ (place + half) % 2 ^ (size - half)) + ones (m % 2 ^ half) =
-      ap (λ n. ones (m % 2 ^ n)) (sym e)
-      ∙ ones_cut m (size - half) half
-      ∙ ap (λ r. ones (r % 2 ^ (size - half)) + ones (m % 2 ^ half)) (shr-shr word place half) in
-      let turned : place + half ≡ half + place = omega arith in
-      let under : ones (word % 2 ^ (place + half)) ≡ ones (m % 2 ^ half) + ones (word % 2 ^ place) =
-      ap (λ n. ones (word % 2 ^ n)) turned ∙ ones_cut word half place in
-      record {
-        some_left = omega (arith, cut, h.some_left, past);
-        below = omega (arith, under, h.below, past);
-        inside = omega (arith, h.inside);
-        some_bits = omega arith;
-      }
+  -- the ones below a place in what is above a byte
+  under : (q : ℕ) → ones (word % 2 ^ (byte + q)) ≡ ones (rest % 2 ^ q) + ones (word % 2 ^ byte)
+  under q =
+      let turned : byte + q ≡ q + byte = omega arith in
+      ap (λ n. ones (word % 2 ^ n)) turned ∙ ones_cut word q byte
 
--- one bit that holds it is it
-pub last_bit : (word k place left : ℕ) → Holds word k place left 1 → (bit_at word place ≡ 1) × (ones (word % 2 ^ place) ≡ k)
-last_bit word k place left h =
-    let rest = word / 2 ^ place % 2 ^ 1 in
-    let one : 2 ^ 1 ≡ 2 = refl in
-    let bit : rest ≡ bit_at word place = refl in
-    let small : rest < 2 ^ 1 = let m = mod_below (word / 2 ^ place) 2 (lit< tt) in omega arith in
-    let few = ones-le 1 rest small in
-    let some : rest ≢ 0 = λ none. let e : ones rest ≡ 0 = ap ones none ∙ no_ones in omega (arith, h.some_left) in
-    (omega arith, omega (arith, h.some_left, h.below))
+  -- the byte has the one that is left
+  pub in_byte : k < ones (word % 2 ^ (byte + 8)) → k - ones (word % 2 ^ byte) < ones (rest % 2 ^ 8)
+  in_byte high = let cut = under 8 in omega arith
+
+  -- a bit before which there are all that are left, and after which there are more, is the one
+  pub found : (q left : ℕ) → left ≡ k - ones (word % 2 ^ byte) → ones (rest % 2 ^ q) ≤ left → left < ones (rest % 2 ^ (q + 1)) → (bit_at word (byte + q) ≡ 1) × (ones (word % 2 ^ (byte + q)) ≡ k)
+  found q left is before after =
+      let more = rank_more rest q in
+      let e : q + 1 ≡ suc q = omega arith in
+      let here = rank_ones q rest in
+      let next : ones (rest % 2 ^ (q + 1)) ≡ bit_at rest q + ones (rest % 2 ^ q) =
+      ap (λ n. ones (rest % 2 ^ n)) e ∙ sym (rank_ones (suc q) rest) ∙ more ∙ ap (λ n. bit_at rest q + n) here in
+      let small : bit_at rest q < 2 = mod_below (rest / 2 ^ q) 2 (lit< tt) in
+      let same : bit_at rest q ≡ bit_at word (byte + q) = ap (λ m. m % 2) (shr-shr word byte q) in
+      let cut = under q in
+      (omega arith, omega arith)

@@ -154,9 +154,24 @@ impl<B: WordBank + Copy> RankSel<B> {
         ensures cost { steps.new ≤ steps.old + 72 }
     {
         let place = self.one_at(k, steps);
+        (place, self.next(k, place, steps))
+    }
+
+    /// The place of the one after one number `k`, which stands at `place`, in at most 36 ticks.
+    #[inline]
+    pub fn next<L: Ledger>(&self, k: u64, place: u64, steps: &mut Steps<L>) -> u64
+        requires some { k + 1
+            < rank_of self.now.bits (number_at self.now.first (B.words_of self.now.bank)) }
+        requires place { place
+            ≡ place_of self.now.bits (number_at self.now.first (B.words_of self.now.bank)) k }
+        ensures place { result
+            ≡ place_of self.now.bits (number_at self.now.first (B.words_of self.now.bank)) (k + 1) }
+        ensures counted { steps.old < steps.new }
+        ensures cost { steps.new ≤ steps.old + 36 }
+    {
         match self.next_near(place, steps) {
-            Some(next) => (place, next),
-            None => (place, self.one_at(k + 1, steps)),
+            Some(next) => next,
+            None => self.one_at(k + 1, steps),
         }
     }
 
@@ -196,7 +211,7 @@ impl<B: WordBank + Copy> RankSel<B> {
         select_between(&self.bank, self.first, from, to, before, k, steps).place
     }
 
-    /// The first one after `place`, where it is in the same word or in one of the seven after.
+    /// The first one after `place`, where it is in the same word or in one of the three after.
     #[inline]
     fn next_near<L: Ledger>(&self, place: u64, steps: &mut Steps<L>) -> Option<u64>
         requires { place < self.now.bits }
@@ -206,14 +221,14 @@ impl<B: WordBank + Copy> RankSel<B> {
             rank_of p (number_at self.now.first (B.words_of self.now.bank))
             ≡ rank_of (place + 1) (number_at self.now.first (B.words_of self.now.bank))) }
         ensures counted { steps.old < steps.new }
-        ensures cost { steps.new ≤ steps.old + 8 }
+        ensures cost { steps.new ≤ steps.old + 4 }
     {
         let word = (place / 64) as usize;
         let rest = self.bank.word(self.first + word, steps) >> (place % 64) >> 1;
         if rest != 0 {
             return Some(place + 1 + u64::from(rest.trailing_zeros()));
         }
-        let to = (word + 8).min(self.bits.div_ceil(64) as usize);
+        let to = (word + 4).min(self.bits.div_ceil(64) as usize);
         next_between(&self.bank, self.first, word + 1, to, steps)
     }
 }

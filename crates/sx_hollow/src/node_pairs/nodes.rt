@@ -14,11 +14,11 @@ use std::alloc::AllocError;
 use sx_bits::{KeyList, Piece};
 use sx_trie::Trie;
 
-/// How many bits a key has at most.
+/// How many bits a key has at most: a leaf has no extent that ends a fragment.
 const LONGEST: u32 = 65536;
 
 /// A node of the trie: the fragments there are the bits of the keys from `name` up to before
-/// `extent`, as far as they have bits. It stands on the way of the delimiter that is key number `key`.
+/// `extent`, as far as they have bits. The delimiter that is key number `key` stands under it.
 #[derive(Clone, Copy)]
 pub(crate) struct VisitedNode {
     pub(crate) tag: u32,
@@ -73,7 +73,8 @@ fn shared(keys: &KeyList, a: u32, b: u32) -> u32
     key_view(keys, a).lcp(&key_view(keys, b)) + 1
 }
 
-/// How many bits leaf number `leaf` shares with the one before it, and one bit more; 0 for the first.
+/// How many bits leaf number `leaf` shares with the one before it, and one bit more; 0 for the
+/// first.
 fn parted_before(keys: &KeyList, delimiters: &[u32], leaf: usize) -> u32
     requires rising { AreRising keys.now.lines delimiters.now }
     requires inside { leaf < length delimiters.now }
@@ -85,7 +86,8 @@ fn parted_before(keys: &KeyList, delimiters: &[u32], leaf: usize) -> u32
     shared(keys, delimiters[leaf - 1], delimiters[leaf])
 }
 
-/// How many bits leaf number `leaf` shares with the one after it, and one bit more; 0 for the last.
+/// How many bits leaf number `leaf` shares with the one after it, and one bit more; 0 for the
+/// last.
 fn parted_after(keys: &KeyList, delimiters: &[u32], leaf: usize) -> u32
     requires rising { AreRising keys.now.lines delimiters.now }
     requires inside { leaf < length delimiters.now }

@@ -13,7 +13,7 @@ loop-place-preserved g c =
     let skipped = c.gap-skipped.ensures.counted in
     record {
       rows = subst (λ (words : List ℕ). AreRows left skip words) (sym c.in_ok-extend_from_slice.ensures.items)
-          (rows_more left skip c.loop-place.words.items _ _ _ _ c.loop-place.invariant.rows c.gap-below.ensures.value c.gap-skipped.ensures.value);
+          (rows_more left skip c.loop-place.words.items _ _ _ _ c.loop-place.invariant.rows (omega arith) (omega arith) c.gap-below.ensures.value c.gap-skipped.ensures.value);
       counted = omega (arith, before, below, skipped);
     }
 

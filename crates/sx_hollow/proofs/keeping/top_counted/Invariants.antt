@@ -8,4 +8,4 @@ abbrev pub invariant-loop-many : goal.invariant-loop-many
 invariant-loop-many g l = AreKept (gaps (sums_read l.left)) (gaps (sums_read l.skip)) l.words.items
 
 abbrev pub decreases-loop-many : goal.decreases-loop-many
-decreases-loop-many g l = l.many + 1 - 64
+decreases-loop-many g l = l.many + 1 - 32

@@ -1,9 +1,11 @@
-use Rattle.std.proofs.Common.{refl, ◌∙◌, arith}
+use Rattle.std.proofs.Common.{refl, ◌∙◌, arith, inl, inr}
+use Rattle.std.proofs.lemmas.Bool.{cases_eq}
 use Rattle.sx_spec.specs.Reply.{gaps}
-use Rattle.sx_spec_kinds.specs.Hollow.{goes}
+use Rattle.sx_spec_kinds.specs.Hollow.{goes, lost}
 use Rattle.sx_bits.specs.Views.{bits_of}
 use Rattle.sx_hollow.specs.Views.{sums_read}
 use Rattle.sx_hollow.specs.Walks.{stand_of}
+use Rattle.sx_hollow.proofs.Descents.{step_by_entry}
 use Rattle.sx_hollow.proofs.Rest.{rest_starts, rest_steps, rest_lost, rest_short, rest_leaf, rest_none}
 use Rattle.sx_hollow.proofs.view.HollowView.answer.Goals as goal
 
@@ -29,35 +31,45 @@ returns-then-len-at-clause-value g c =
 pub returns-in_err-at-clause-value : goal.returns-in_err-at-clause-value
 returns-in_err-at-clause-value g c =
     let v = c.args.self.now in
-    c.from_residual.ensures
-    ∙ rest_lost (gaps (sums_read v.left)) (gaps (sums_read v.skip)) v.keys (bits_of c.args.view.now) (goes (stand_of c.loop-at.at)) c.loop-at.at.leaves c.loop-at.invariant.rest c.in_err-at.ensures.value
+    let left = gaps (sums_read v.left) in
+    let skip = gaps (sums_read v.skip) in
+    let x = bits_of c.args.view.now in
+    let at = c.loop-at.at in
+    let is = step_by_entry left skip x (stand_of at) lost c.in-Some.entry c.loop-at-test.true c.in-Some.ensures.node c.in-Some.ensures.numbers c.in_err-at.ensures.value in
+    c.from_residual.ensures ∙ rest_lost left skip v.keys x (goes (stand_of at)) at.leaves c.loop-at.invariant.rest is
 
 pub loop-at-preserved : goal.loop-at-preserved
 loop-at-preserved g c =
     let v = c.args.self.now in
-    let at = c.in_ok-at.at in
+    let left = gaps (sums_read v.left) in
+    let skip = gaps (sums_read v.skip) in
+    let x = bits_of c.args.view.now in
+    let at = c.loop-at.at in
+    let next = c.in_ok-at.at in
+    let is = step_by_entry left skip x (stand_of at) (goes (stand_of next)) c.in-Some.entry c.loop-at-test.true c.in-Some.ensures.node c.in-Some.ensures.numbers c.in_ok-at.ensures.value in
     let farther = c.in_ok-at.ensures.farther in
-    let counted = c.in_ok-at.ensures.counted in
-    let cost = c.in_ok-at.ensures.cost in
+    let counted = c.kept.ensures.counted in
+    let cost = c.kept.ensures.cost in
     let so_far = c.loop-at.invariant.counted in
     let spent = c.loop-at.invariant.cost in
     record {
-      node = c.in_ok-at.ensures.node;
-      first = c.in_ok-at.ensures.first;
+      node = omega (arith, c.in_ok-at.ensures.node, c.loop-at.invariant.node);
+      first = omega (arith, c.in_ok-at.ensures.first, c.loop-at.invariant.first);
       short = c.in_ok-at.ensures.short;
       counted = omega arith;
       cost = omega arith;
-      rest = rest_steps (gaps (sums_read v.left)) (gaps (sums_read v.skip)) v.keys (bits_of c.args.view.now) (goes (stand_of c.loop-at.at)) (goes (stand_of at)) c.loop-at.at.leaves at.leaves c.loop-at.invariant.rest c.in_ok-at.ensures.fewer c.in_ok-at.ensures.value;
+      rest = rest_steps left skip v.keys x (goes (stand_of at)) (goes (stand_of next)) at.leaves next.leaves c.loop-at.invariant.rest c.in_ok-at.ensures.fewer is;
     }
 
-pub returns-then-at-eq1-clause-value : goal.returns-then-at-eq1-clause-value
-returns-then-at-eq1-clause-value g c =
+pub returns-clause-value : goal.returns-clause-value
+returns-clause-value g c =
     let v = c.args.self.now in
-    rest_leaf (gaps (sums_read v.left)) (gaps (sums_read v.skip)) v.keys (bits_of c.args.view.now) (stand_of c.loop-at.at) c.loop-at.invariant.rest c.if-at-eq1.true
-
-pub returns-else-at-eq1-clause-value : goal.returns-else-at-eq1-clause-value
-returns-else-at-eq1-clause-value g c =
-    let v = c.args.self.now in
+    let left = gaps (sums_read v.left) in
+    let skip = gaps (sums_read v.skip) in
+    let x = bits_of c.args.view.now in
+    let at = c.loop-at.at in
     let few = c.loop-at-test.false in
-    let not_one = c.if-at-eq1.false in
-    rest_none (gaps (sums_read v.left)) (gaps (sums_read v.skip)) v.keys (bits_of c.args.view.now) (stand_of c.loop-at.at) c.loop-at.invariant.rest (omega arith)
+    elim (cases_eq at.leaves 1) [
+      | inl one ↦ c.leaf.ensures.one one ∙ rest_leaf left skip v.keys x (stand_of at) c.loop-at.invariant.rest one
+      | inr other ↦ c.leaf.ensures.other other ∙ rest_none left skip v.keys x (stand_of at) c.loop-at.invariant.rest (omega arith)
+    ]

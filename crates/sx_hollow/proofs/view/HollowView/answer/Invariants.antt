@@ -3,8 +3,7 @@ use Rattle.sx_spec.specs.Reply.{gaps}
 use Rattle.sx_spec_kinds.specs.Hollow.{goes}
 use Rattle.sx_bits.specs.Views.{bits_of}
 use Rattle.sx_hollow.specs.Views.{sums_read}
-use Rattle.sx_hollow.specs.Walks.{stand_of}
-use Rattle.sx_hollow.proofs.Rest.{RestOf}
+use Rattle.sx_hollow.specs.Walks.{RestOf, stand_of}
 use Rattle.sx_hollow.proofs.view.HollowView.answer.Given as goal
 
 abbrev pub invariant-loop-at : goal.invariant-loop-at

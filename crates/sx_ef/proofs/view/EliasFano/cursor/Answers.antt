@@ -3,7 +3,7 @@ use Rattle.sx_spec.specs.Fields.{fields, ones_of}
 use Rattle.sx_ranksel.specs.Directory.{number_at}
 use Rattle.sx_fields.proofs.Places.{length-fields}
 use Rattle.sx_ef.proofs.Numbers.{length-sums}
-use Rattle.sx_ef.proofs.view.EliasFano.number.Goals as goal
+use Rattle.sx_ef.proofs.view.EliasFano.cursor.Goals as goal
 
 pub select-place-requires : goal.select-place-requires
 select-place-requires g c =
