@@ -72,32 +72,11 @@ const LCP2: [u64; 35] = [
 
 /// The hollow distributor of the keys a, b, c and d in blocks of one.
 const HOLLOW_DIST: [u64; 26] = [
-    MAGIC,
-    26,
-    4,
-    0,
-    4,
-    0,
-    192,
-    0,
-    0,
-    0, // the front
-    0,
-    4,
-    0,
-    9, // offsets
-    3,
-    3,
-    21, // left
-    3,
-    7,
-    0,
-    49, // skip
-    2,
-    6,
-    0,
-    12,
-    0x81_3000, // turns
+    MAGIC, 26, 4, 0, 4, 0, 192, 0, 0, 0, // the front
+    0, 4, 0, 9, // offsets
+    3, 3, 21, // left
+    3, 7, 0, 49, // skip
+    2, 6, 0, 12, 0xC4_4042, // turns
 ];
 
 /// A z-fast dump of four keys in blocks of one, with two corrections.
