@@ -12,8 +12,8 @@ returns-then-len-at-clause-value c =
     let short = c.if-len-at.true in
     lost_at e.left e.skip (bits_of c.args.view.now) (stand_of c.args.at.now) (inr (inr (omega arith)))
 
-pub returns-then-next-at-clause-later : goal.returns-then-next-at-clause-later
-returns-then-next-at-clause-later c =
+pub returns-clause-later : goal.returns-clause-later
+returns-clause-later c =
     let e = c.args.entry.now in
     record {
       some = goes_some e.left e.skip (bits_of c.args.view.now) (stand_of c.args.at.now) (stand_of c.in-Some.next) c.requires.some c.requires.fewer c.in-Some.ensures.value;
@@ -24,14 +24,3 @@ returns-then-next-at-clause-later c =
       within = c.in-Some.ensures.short;
     }
 
-pub returns-else-next-at-clause-later : goal.returns-else-next-at-clause-later
-returns-else-next-at-clause-later c =
-    let e = c.args.entry.now in
-    record {
-      some = goes_some e.left e.skip (bits_of c.args.view.now) (stand_of c.args.at.now) (stand_of c.in-Some.next) c.requires.some c.requires.fewer c.in-Some.ensures.value;
-      fewer = c.in-Some.ensures.fewer;
-      node = c.in-Some.ensures.node;
-      first = c.in-Some.ensures.first;
-      farther = c.in-Some.ensures.farther;
-      within = c.in-Some.ensures.short;
-    }
