@@ -70,6 +70,15 @@ const LCP2: [u64; 35] = [
     0xFF03_0201, // signatures
 ];
 
+/// The hollow distributor of the keys a, b, c and d in blocks of one.
+const HOLLOW_DIST: [u64; 26] = [
+    MAGIC, 26, 4, 0, 4, 0, 192, 0, 0, 0, // the front
+    0, 4, 0, 9, // offsets
+    3, 3, 21, // left
+    3, 7, 0, 49, // skip
+    2, 6, 0, 12, 0xC4_4042, // turns
+];
+
 /// A z-fast dump of four keys in blocks of one, with two corrections.
 const ZFAST: [u64; 48] = [
     MAGIC,
@@ -146,6 +155,7 @@ fn dumps_are_opened(rt: HostRuntime) -> Result<(), Fail> {
     assert_eq!(rt; opened(&FIVES), Ok(1));
     assert_eq!(rt; opened(&HOLLOW), Ok(2));
     assert_eq!(rt; opened(&LCP2), Ok(6));
+    assert_eq!(rt; opened(&HOLLOW_DIST), Ok(4));
     assert_eq!(rt; opened(&ZFAST), Ok(10));
     let empty = [MAGIC, 16, 3, 0, 0, 0, 192, 0, 0, 0, 1, 1, 1, 1, 1, 1];
     assert_eq!(rt; opened(&empty), Ok(2));
@@ -183,6 +193,21 @@ fn checks_of_sections(rt: HostRuntime) -> Result<(), Fail> {
     let mut broken = ZFAST;
     broken[13] = 8;
     assert_eq!(rt; opened(&broken), Err(14));
+    Ok(())
+}
+
+/// As many pairs of turns as keys and delimiters pass, and the lists have a number for each
+/// delimiter.
+#[test]
+fn checks_of_turns(rt: HostRuntime) -> Result<(), Fail> {
+    let mut most = HOLLOW_DIST;
+    most[22] = 7;
+    assert_eq!(rt; opened(&most), Ok(4));
+    most[22] = 8;
+    assert_eq!(rt; opened(&most), Err(12));
+    let mut few = HOLLOW_DIST;
+    few[7] = 1;
+    assert_eq!(rt; opened(&few), Err(12));
     Ok(())
 }
 

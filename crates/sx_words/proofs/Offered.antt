@@ -25,18 +25,19 @@ use Rattle.sx_words.proofs.Verdicts.{rule_is}
 -- the kind of a word that is offered is offered
 kind_fits : (word : Text) (kind : Kind) → offers_kind_word sux_offer word ≡ true → kind_named word ≡ Some kind → offers_kind sux_offer kind ≡ true
 kind_fits word kind offers named =
-    by_tests (bytes_eq (kind_word Func) word) (bytes_eq (kind_word Lcp) word) (bytes_eq (kind_word Lcp2) word) (bytes_eq (kind_word Hollow) word) (λ k. bytes_eq (kind_word k) word) offers named
+    by_tests (bytes_eq (kind_word Func) word) (bytes_eq (kind_word Lcp) word) (bytes_eq (kind_word Lcp2) word) (bytes_eq (kind_word Hollow) word) (bytes_eq (kind_word HollowDist) word) (λ k. bytes_eq (kind_word k) word) offers named
   where
     same : {k : Kind} → kind ≡ k → offers_kind sux_offer kind ≡ offers_kind sux_offer k
     same is = ap (offers_kind sux_offer) is
 
-    by_tests : (a b d h : Bool) (p : Kind → Bool) → (a || (b || (d || (h || false)))) ≡ true
-        → (if a then Some Func else if b then Some Lcp else if d then Some Lcp2 else if h then Some Hollow else find p (drop 4 kinds)) ≡ Some kind → offers_kind sux_offer kind ≡ true
-    by_tests true b d h p o n = let is : Func ≡ kind = cc in same (sym is)
-    by_tests false true d h p o n = let is : Lcp ≡ kind = cc in same (sym is)
-    by_tests false false true h p o n = let is : Lcp2 ≡ kind = cc in same (sym is)
-    by_tests false false false true p o n = let is : Hollow ≡ kind = cc in same (sym is)
-    by_tests false false false false p o n = absurd cc
+    by_tests : (a b d h g : Bool) (p : Kind → Bool) → (a || (b || (d || (h || (g || false))))) ≡ true
+        → (if a then Some Func else if b then Some Lcp else if d then Some Lcp2 else if h then Some Hollow else if g then Some HollowDist else find p (drop 5 kinds)) ≡ Some kind → offers_kind sux_offer kind ≡ true
+    by_tests true b d h g p o n = let is : Func ≡ kind = cc in same (sym is)
+    by_tests false true d h g p o n = let is : Lcp ≡ kind = cc in same (sym is)
+    by_tests false false true h g p o n = let is : Lcp2 ≡ kind = cc in same (sym is)
+    by_tests false false false true g p o n = let is : Hollow ≡ kind = cc in same (sym is)
+    by_tests false false false false true p o n = let is : HollowDist ≡ kind = cc in same (sym is)
+    by_tests false false false false false p o n = absurd cc
 
 -- no kind that is offered keeps handles
 no_handles : (kind : Kind) → offers_kind sux_offer kind ≡ true → uses_handles kind ≡ false

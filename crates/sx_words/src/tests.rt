@@ -51,8 +51,8 @@ fn refused_words(rt: HostRuntime) -> Result<(), Fail> {
         ("build func D --frob 5", Some(Rule::BadWords)),
         ("build tree D", Some(Rule::UnknownKind)),
         ("build tree D --signed 8", Some(Rule::UnknownKind)),
-        ("build hollowdist D", Some(Rule::UnknownKind)),
-        ("build hollowdist D --sig-bits 193", Some(Rule::UnknownKind)),
+        ("build zfast D", Some(Rule::UnknownKind)),
+        ("build zfast D --sig-bits 193", Some(Rule::UnknownKind)),
         (
             "build lcp D --log-bucket 13",
             Some(Rule::BadValue(OptionName::LogBucket)),
@@ -80,6 +80,13 @@ fn refused_words(rt: HostRuntime) -> Result<(), Fail> {
             Some(Rule::DoesNotGo {
                 name: OptionName::Values,
                 kind: Kind::Lcp,
+            }),
+        ),
+        (
+            "build hollowdist D --values f",
+            Some(Rule::DoesNotGo {
+                name: OptionName::Values,
+                kind: Kind::HollowDist,
             }),
         ),
         (
@@ -225,6 +232,8 @@ fn builds_of_each_kind(rt: HostRuntime) -> Result<(), Fail> {
         ("build lcp2 D --signed=1", Kind::Lcp2, 5, 1),
         ("build hollow D", Kind::Hollow, 0, 0),
         ("build hollow D --signed 64", Kind::Hollow, 0, 64),
+        ("build hollowdist D", Kind::HollowDist, 5, 0),
+        ("build hollowdist D --log-bucket 0", Kind::HollowDist, 0, 0),
     ];
     for (line, kind, log_bucket, signed) in cases {
         match task(alloc, line)? {
@@ -233,9 +242,14 @@ fn builds_of_each_kind(rt: HostRuntime) -> Result<(), Fail> {
                 assert_eq!(rt; build.plan.log_bucket, log_bucket, "{line}");
                 assert_eq!(rt; build.plan.handle_bits, 0, "{line}");
                 assert_eq!(rt; build.plan.signed, signed, "{line}");
+                assert_eq!(rt; build.plan.method, Method::Mwhc, "{line}");
             }
             _ => assert!(rt; false, "{line}"),
         }
+    }
+    match task(alloc, "build hollowdist D --method gov3")? {
+        Task::Build(build) => assert_eq!(rt; build.plan.method, Method::Gov3),
+        _ => assert!(rt; false, "no build"),
     }
     Ok(())
 }

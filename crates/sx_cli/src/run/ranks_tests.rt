@@ -77,6 +77,22 @@ fn hollow_tries_have_their_ranks(rt: HostRuntime) -> Result<(), Fail> {
     answers(&rt, alloc, line, b"a\n", told, b"a\n\nb\n", b"0\n0\n0\n")
 }
 
+/// In blocks of one the walk alone says the rank.
+#[test]
+fn hollow_distributors_have_their_ranks(rt: HostRuntime) -> Result<(), Fail> {
+    let alloc = rt.alloc();
+    let line = "build hollowdist D --log-bucket 0";
+    let told = b"keys 4 seed 0 words 26\n";
+    let keys = b"a\nb\nc\nd\n";
+    answers(&rt, alloc, line, keys, told, keys, b"0\n1\n2\n3\n")?;
+    let told = b"keys 0 seed 0 words 24\n";
+    answers(&rt, alloc, line, b"", told, b"x\n\n", b"-1\n-1\n")?;
+    let line = "build hollowdist D --signed 16 --log-bucket 1";
+    let told = b"keys 4 seed 0 words 29\n";
+    let lines = b"d\ne\nb\na\nc\n";
+    answers(&rt, alloc, line, keys, told, lines, b"3\n-1\n1\n0\n2\n")
+}
+
 /// Of each kind a dump in which a number of each key is kept. A stranger has another.
 #[test]
 fn signed_keys_have_their_ranks(rt: HostRuntime) -> Result<(), Fail> {
@@ -123,6 +139,7 @@ fn signed_dumps_of_no_keys(rt: HostRuntime) -> Result<(), Fail> {
         ("build lcp D --signed 8", "keys 0 seed 0 words 20\n"),
         ("build lcp2 D --signed 8", "keys 0 seed 0 words 30\n"),
         ("build hollow D --signed 8", "keys 0 seed 0 words 18\n"),
+        ("build hollowdist D --signed 8", "keys 0 seed 0 words 26\n"),
     ];
     for (line, told) in rows {
         answers(
@@ -149,6 +166,22 @@ fn parts_that_fail_are_named(rt: HostRuntime) -> Result<(), Fail> {
     let text =
         b"sux: seed 7: part offsets: strings 0 and 1 have one signature\nsux: no handed seed works\n";
     refuses(&rt, rt.alloc(), line, b"a\nb\n", status, text)
+}
+
+/// With seed 1 the signatures of both keys differ in the one bit that is kept, and those of both
+/// fragments don't.
+#[test]
+fn parts_of_a_hollow_distributor_are_named(rt: HostRuntime) -> Result<(), Fail> {
+    let status = Status::SeedsFailed;
+    let keys = b"a\nb\n";
+    let line = "build hollowdist D --seeds 7 --sig-bits 0";
+    let text =
+        b"sux: seed 7: part offsets: strings 0 and 1 have one signature\nsux: no handed seed works\n";
+    refuses(&rt, rt.alloc(), line, keys, status, text)?;
+    let line = "build hollowdist D --log-bucket 0 --seeds 1 --sig-bits 1";
+    let text =
+        b"sux: seed 1: part turns: strings 0 and 1 have one signature\nsux: no handed seed works\n";
+    refuses(&rt, rt.alloc(), line, keys, status, text)
 }
 
 #[test]
@@ -186,6 +219,15 @@ fn options_go_with_their_kinds(rt: HostRuntime) -> Result<(), Fail> {
         &rt,
         rt.alloc(),
         "build lcp2 D --values V",
+        b"",
+        status,
+        text,
+    )?;
+    let text = b"sux: usage: --values does not go with hollowdist\n";
+    refuses(
+        &rt,
+        rt.alloc(),
+        "build hollowdist D --values V",
         b"",
         status,
         text,
