@@ -1,10 +1,11 @@
 -- Which sections the words of a dump hold, by its kind, and where they stand.
-use Rattle.std.proofs.Common.{◌≡◌, ℕ, zero, suc, ◌+◌, ◌-◌, ◌^◌, ◌<◌, ◌≤◌, Bool, true, false, List, [], ◌∷◌, ◌++◌, length, map, drop, codes, Option, Some, None, Result, Ok, Err, refl, sym, ap, subst, ◌∙◌, arith, append_assoc, append-nil}
-use Rattle.std.specs.Prelude.{◌==◌, ⊤, nat_le, slice_get, slice_index, slice_index_or, if◌then◌else◌}
+use Rattle.std.proofs.Common.{◌≡◌, ℕ, zero, suc, ◌+◌, ◌-◌, ◌^◌, ◌<◌, ◌≤◌, ◌≢◌, Bool, true, false, List, [], ◌∷◌, ◌++◌, length, map, drop, codes, Option, Some, None, Result, Ok, Err, refl, sym, ap, subst, ◌∙◌, arith, append_assoc, append-nil}
+use Rattle.std.specs.Prelude.{◌==◌, ⊤, nat_le, slice_get, slice_index, slice_index_or, unwrap_or, if◌then◌else◌}
 use Rattle.std.specs.Int.{is_in_range}
+use Rattle.std.specs.List.{last_or}
 use Rattle.std.specs.Result.{result_unwrap_or}
-use Rattle.std.proofs.lemmas.Bool.{and_parts, eq-eqb, eqb-true, leb-true}
-use Rattle.std.proofs.lemmas.List.{length-map}
+use Rattle.std.proofs.lemmas.Bool.{and_parts, eqb-true, leb-true, ne_eqb}
+use Rattle.std.proofs.lemmas.List.{length-append, length-map}
 use Rattle.std.proofs.lemmas.Option.{get_or_from_slice_get}
 use Rattle.sx_ef.proofs.Numbers.{length-sums}
 use Rattle.sx_ef.specs.declared.section.Sums.{Sums as SumsPlace}
@@ -15,7 +16,7 @@ use Rattle.sx_spec_kinds.specs.declared.Kind.TheVariants.{Func, Lcp, Lcp2, Hollo
 use Rattle.sx_spec_strings.specs.First.{first_failing}
 use Rattle.sx_spec.specs.Kinds.{bucket_count}
 use Rattle.sx_spec.specs.Layout.{Header as HeaderOf, Section, SectionRule, Slot, are_sums, corrections_of, corrections_section, exact_list, function_checks, function_of, function_section, header_of, item_words, kind_slots, last_section, list_checks, list_of, list_section, section_checks, section_of, section_size, section_width, sections_in, slots, sums_checks, sums_low, sums_numbers, sums_of, sums_section, sums_upper, sums_upper_bits}
-use Rattle.sx_spec.specs.Reply.{function_in, numbers_in, section_at as section_of_dump}
+use Rattle.sx_spec.specs.Reply.{function_in, kept_numbers, numbers_in, section_at as section_of_dump}
 use Rattle.sx_spec_strings.proofs.Lists.{all_true}
 use Rattle.sx_static.specs.Viewing.{viewed}
 use Rattle.sx_spec.specs.Fields.{fields, low_width, ones_of, words_number}
@@ -39,6 +40,22 @@ map_at : {X Y : Type 0} (f : X → Y) (xs : List X) (i : ℕ) (x : X) (d : Y) �
 map_at f [] i x d there = absurd cc
 map_at f (y ∷ xs) zero x d there = let same : y ≡ x = cc in ap f same
 map_at f (y ∷ xs) (suc i) x d there = map_at f xs i x d there
+
+-- the last of the elements
+get_last : {X : Type 0} (xs : List X) (x : X) → slice_get (xs ++ x ∷ []) (length xs) ≡ Some x
+get_last [] x = refl
+get_last (y ∷ xs) x = get_last xs x
+
+-- the last of the sections so far
+last_is : (xs : List Section) (n : ℕ) → length xs ≡ n + 1 → slice_index_or xs n (sums_section []) ≡ last_section xs
+last_is [] n many = absurd (omega arith)
+last_is (x ∷ xs) n many =
+    let place : n ≡ length xs = omega arith in
+    ap (λ (k : ℕ). slice_index_or (x ∷ xs) k (sums_section [])) place ∙ after x xs
+  where
+    after : (y : Section) (ys : List Section) → slice_index_or (y ∷ ys) (length ys) (sums_section []) ≡ unwrap_or (last_or (Some y) ys) (sums_section [])
+    after y [] = refl
+    after y (z ∷ zs) = after z zs
 
 -- ---- a section by its rule
 
@@ -167,23 +184,22 @@ narrow_list least most low high (list_section width items) fit = fit.1.1
 narrow_list least most low high (sums_section items) fit = absurd fit
 narrow_list least most low high (corrections_section sigs) fit = absurd fit
 
+-- a packed list of so many numbers of so many bits
+abbrev pub IsListOf : (count width : ℕ) → Section → Type 0
+IsListOf count width x = FitsRule (list_of count count width width) x
+
+list_width : (count width : ℕ) (x : Section) → IsListOf count width x → section_width x ≡ width
+list_width count width (function_section f) fit = absurd fit
+list_width count width (list_section w items) fit = let low = fit.1.0 in let high = fit.1.1 in omega arith
+list_width count width (sums_section items) fit = absurd fit
+list_width count width (corrections_section sigs) fit = absurd fit
+
 -- the numbers of the function in a section
 function_bounds : (least most low high : ℕ) (x : Section) → IsFunctionOf least most low high x → IsBetween least most (function_in x).pairs × IsBetween low high (function_in x).width
 function_bounds least most low high (function_section f) fit = fit
 function_bounds least most low high (list_section width items) fit = absurd fit
 function_bounds least most low high (sums_section items) fit = absurd fit
 function_bounds least most low high (corrections_section sigs) fit = absurd fit
-
--- a function alone, in its slot
-alone : (slot : Slot) (xs : List Section) (least most low high : ℕ) → ((b : List Section) → slot.rule b ≡ function_of least most low high) → FitSlots (slot ∷ []) [] xs → xs ≡ function_section (function_in (slice_index_or xs 0 (sums_section []))) ∷ []
-alone slot [] least most low high rule fit = absurd fit
-alone slot (x ∷ xs) least most low high rule fit = first x (subst (λ (r : SectionRule). FitsRule r x) (rule []) fit.0)
-  where
-    first : (y : Section) → IsFunctionOf least most low high y → y ∷ xs ≡ function_section (function_in y) ∷ []
-    first (function_section f) fits = ap (λ ys. function_section f ∷ ys) fit.1
-    first (list_section width items) fits = absurd fits
-    first (sums_section items) fits = absurd fits
-    first (corrections_section sigs) fits = absurd fits
 
 -- ---- places by their sort
 
@@ -263,7 +279,11 @@ module _ (words : List ℕ) (h : Header) (places : List Place) (is : IsOpened wo
   pub numbers_are : (i : ℕ) (s : Packed) → slice_get places i ≡ Some (ListPlace s) → fields s.width s.count (drop s.body words) ≡ numbers_in (section_of_dump (dump_in words) i)
   numbers_are i s there = sym (ap numbers_in (section_is i (ListPlace s) there))
 
-  -- and so are those of an Elias-Fano list
+  -- and they are as wide
+  pub width_is : (i : ℕ) (s : Packed) → slice_get places i ≡ Some (ListPlace s) → s.width ≡ section_width (section_of_dump (dump_in words) i)
+  width_is i s there = sym (ap section_width (section_is i (ListPlace s) there))
+
+  -- the numbers of an Elias-Fano list there are those of section i
   pub sums_are : (i : ℕ) (s : SumsPlace) → slice_get places i ≡ Some (Sums s) → sums_read words s ≡ numbers_in (section_of_dump (dump_in words) i)
   sums_are i s there = sym (ap numbers_in (section_is i (Sums s) there))
 
@@ -350,21 +370,60 @@ module _ (words : List ℕ) (h : Header) (places : List Place) (is : IsOpened wo
       subst (λ (x : Section). IsBetween least most (function_in x).pairs × IsBetween low high (function_in x).width) (sym same)
       (function_bounds least most low high (slice_index_or found i (sums_section [])) row)
 
-  -- ---- without signatures
+  -- ---- the signatures that are kept
 
-  pub unsigned : head.plan.signed ≡ 0
-  unsigned =
-      let most : h.plan.signed ≤ 0 = is.signed in
-      let none : h.plan.signed ≡ 0 = omega arith in
-      ap (λ (g : HeaderOf). g.plan.signed) is.header ∙ none
+  -- the list of a signed dump is its last section: one number of the header's width for each key
+  abbrev kept_slot : Slot
+  kept_slot = exact_list (codes "signatures") head.keys head.plan.signed head.plan.signed
 
-  -- a static function's dump has its function alone
-  pub only_values : head.plan.kind ≡ Func → (dump_in words).sections ≡ function_section (function_in (section_of_dump (dump_in words) 0)) ∷ []
-  only_values same =
-      let none : (head.plan.signed == 0) ≡ true = eq-eqb head.plan.signed 0 unsigned in
-      let slot : Slot = record { name = codes "values"; rule = λ _. function_of head.keys head.keys 0 64 } in
-      let slots_are : slots head ≡ slot ∷ [] =
-      (λ i. kind_slots (same i) head ++ (if none i then [] else exact_list (codes "signatures") head.keys head.plan.signed head.plan.signed ∷ [])) in
-      let fit : FitSlots (slot ∷ []) [] (dump_in words).sections =
-      subst (FitSlots (slot ∷ []) []) (sym sections_are) (subst (λ (s : List Slot). FitSlots s [] found) slots_are sections_fit) in
-      alone slot (dump_in words).sections head.keys head.keys 0 64 (λ b. refl) fit
+  -- the width is that of the words
+  pub signed_some : h.plan.signed ≢ 0 → head.plan.signed ≢ 0
+  signed_some some = λ none. some (sym (ap (λ (g : HeaderOf). g.plan.signed) is.header) ∙ none)
+
+  -- in the slots of a signed dump it is the last
+  slots_signed : head.plan.signed ≢ 0 → slots head ≡ kind_slots head.plan.kind head ++ kept_slot ∷ []
+  slots_signed some =
+      let signed : (head.plan.signed == 0) ≡ false = ne_eqb head.plan.signed 0 some in
+      ap (λ (t : Bool). kind_slots head.plan.kind head ++ (if t then [] else kept_slot ∷ [])) signed
+
+  -- where it stands
+  pub kept_place : head.plan.signed ≢ 0 → length places - 1 ≡ length (kind_slots head.plan.kind head)
+  kept_place some =
+      let more : length (kind_slots head.plan.kind head ++ kept_slot ∷ []) ≡ length (kind_slots head.plan.kind head) + 1 = length-append (kind_slots head.plan.kind head) (kept_slot ∷ []) in
+      let count : length (slots head) ≡ length (kind_slots head.plan.kind head ++ kept_slot ∷ []) = ap (λ (s : List Slot). length s) (slots_signed some) in
+      let all = places_count in
+      omega arith
+
+  -- some section stands there
+  pub places_some : head.plan.signed ≢ 0 → 0 < length places
+  places_some some =
+      let more : length (kind_slots head.plan.kind head ++ kept_slot ∷ []) ≡ length (kind_slots head.plan.kind head) + 1 = length-append (kind_slots head.plan.kind head) (kept_slot ∷ []) in
+      let count : length (slots head) ≡ length (kind_slots head.plan.kind head ++ kept_slot ∷ []) = ap (λ (s : List Slot). length s) (slots_signed some) in
+      let all = places_count in
+      omega arith
+
+  -- what it is
+  pub kept_list : head.plan.signed ≢ 0 → IsListOf head.keys head.plan.signed (slice_index_or found (length places - 1) (sums_section []))
+  kept_list some =
+      let last : slice_get (slots head) (length places - 1) ≡ Some kept_slot =
+      (λ i. slice_get (slots_signed some i) (kept_place some i)) ∙ get_last (kind_slots head.plan.kind head) kept_slot in
+      fit_at (IsListOf head.keys head.plan.signed) (slots head) [] found (length places - 1) kept_slot (sums_section []) sections_fit last (λ b x fit. fit)
+
+  -- where its numbers stand
+  pub kept_there : head.plan.signed ≢ 0 → IsListAt places (length places - 1)
+  kept_there some =
+      list_there (length places - 1) head.plan.signed
+      (narrow_list head.keys head.keys head.plan.signed head.plan.signed (slice_index_or found (length places - 1) (sums_section [])) (kept_list some))
+
+  -- they are those that the dump keeps of its keys
+  pub kept_numbers_are : head.plan.signed ≢ 0 → numbers_in (section_of_dump (dump_in words) (length places - 1)) ≡ kept_numbers (dump_in words)
+  kept_numbers_are some =
+      let count : length (dump_in words).sections ≡ length places = ap (λ (xs : List Section). length xs) sections_are ∙ length-map places (section_at words) in
+      let many : length (dump_in words).sections ≡ length places - 1 + 1 = let here = places_some some in omega arith in
+      ap numbers_in (last_is (dump_in words).sections (length places - 1) many)
+
+  -- and as wide as the header says
+  pub kept_width : head.plan.signed ≢ 0 → section_width (section_of_dump (dump_in words) (length places - 1)) ≡ head.plan.signed
+  kept_width some =
+      let same : section_of_dump (dump_in words) (length places - 1) ≡ slice_index_or found (length places - 1) (sums_section []) = ap (λ (xs : List Section). slice_index_or xs (length places - 1) (sums_section [])) sections_are in
+      ap section_width same ∙ list_width head.keys head.plan.signed (slice_index_or found (length places - 1) (sums_section [])) (kept_list some)

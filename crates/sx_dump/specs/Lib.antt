@@ -1,3 +1,4 @@
 pub mod Opening
+pub mod Replying
 pub mod Showing
 pub mod Viewing

@@ -1,5 +1,5 @@
 -- What answers for a dump, by its kind.
-use Rattle.std.specs.Prelude.{◌≡◌, ℕ, List, drop}
+use Rattle.std.specs.Prelude.{◌≡◌, ◌≢◌, ℕ, List, Option, Some, None, drop}
 use Rattle.sx_ef.specs.Parts.{sums_of}
 use Rattle.sx_ef.specs.declared.view.EliasFano.{EliasFano}
 use Rattle.sx_fields.specs.declared.bank.WordBank.{Ghosts}
@@ -10,8 +10,8 @@ use Rattle.sx_lcp.specs.declared.lcp.LcpView.{LcpView}
 use Rattle.sx_lcp.specs.declared.lcp2.Lcp2View.{Lcp2View}
 use Rattle.sx_ranksel.specs.Directory.{number_at}
 use Rattle.sx_spec.specs.Fields.{fields, ones_of}
-use Rattle.sx_spec.specs.Layout.{header_of}
-use Rattle.sx_spec.specs.Reply.{function_in, numbers_of, section_at}
+use Rattle.sx_spec.specs.Layout.{header_of, section_width}
+use Rattle.sx_spec.specs.Reply.{function_in, kept_numbers, numbers_of, section_at}
 use Rattle.sx_static.specs.Viewing.{viewed}
 use Rattle.sx_static.specs.declared.view.FuncView.{FuncView}
 use Rattle.sx_dump.specs.Opening.{dump_in}
@@ -22,9 +22,14 @@ use Rattle.sx_dump.specs.declared.view.View.TheVariants.{Func, Lcp, Lcp2, Hollow
 pub record ReadsFunction {B : Type 0} {bank_of : Ghosts B} (words : List ℕ) (i : ℕ) (v : FuncView B bank_of) : Type 0 where
   pub function : viewed (bank_of.words_of v.bank) v.first v.width v.pairs ≡ function_in (section_at (dump_in words) i)
 
--- the numbers that are read are those of section i of the dump in the words
+-- the numbers that a packed list reads
+abbrev pub numbers_by : {B : Type 0} {bank_of : Ghosts B} (p : Packed B bank_of) → List ℕ
+numbers_by {bank_of = bank_of} p = fields p.width p.len (drop p.first (bank_of.words_of p.bank))
+
+-- they are those of section i of the dump in the words, and as wide
 pub record ReadsNumbers {B : Type 0} {bank_of : Ghosts B} (words : List ℕ) (i : ℕ) (p : Packed B bank_of) : Type 0 where
-  pub numbers : fields p.width p.len (drop p.first (bank_of.words_of p.bank)) ≡ numbers_of (dump_in words) i
+  pub numbers : numbers_by p ≡ numbers_of (dump_in words) i
+  pub width : p.width ≡ section_width (section_at (dump_in words) i)
 
 -- the numbers that an Elias-Fano list reads
 abbrev pub sums_by : {B : Type 0} {bank_of : Ghosts B} (e : EliasFano B bank_of) → List ℕ
@@ -35,6 +40,17 @@ sums_by {bank_of = bank_of} e =
 -- they are those of section i of the dump in the words
 pub record ReadsSums {B : Type 0} {bank_of : Ghosts B} (words : List ℕ) (i : ℕ) (e : EliasFano B bank_of) : Type 0 where
   pub numbers : sums_by e ≡ numbers_of (dump_in words) i
+
+-- they are those that the signed dump in the words keeps of its keys, each of the header's width
+pub record ReadsKept {B : Type 0} {bank_of : Ghosts B} (words : List ℕ) (p : Packed B bank_of) : Type 0 where
+  pub signed : (header_of words).plan.signed ≢ 0
+  pub numbers : numbers_by p ≡ kept_numbers (dump_in words)
+  pub width : p.width ≡ (header_of words).plan.signed
+
+-- what is kept is there exactly where the dump in the words is signed
+pub record IsKeptView {B : Type 0} {bank_of : Ghosts B} (words : List ℕ) (kept : Option (Packed B bank_of)) : Type 0 where
+  pub some : (p : Packed B bank_of) → kept ≡ Some p → ReadsKept words p
+  pub none : kept ≡ None → (header_of words).plan.signed ≡ 0
 
 -- the function is that of a static function's dump in the words
 pub record IsFuncView {B : Type 0} {bank_of : Ghosts B} (words : List ℕ) (v : FuncView B bank_of) : Type 0 where

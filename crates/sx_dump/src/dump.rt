@@ -1,22 +1,28 @@
 //! Dumps, and what they reply to lines.
 
-ghost use Rattle.std.specs.Prelude.{◌≡◌, ◌+◌, ◌≤◌, IfOk, length};
+ghost use Rattle.std.specs.Prelude.{◌≡◌, ◌+◌, ◌≤◌, IfOk, None, length};
+ghost use Rattle.sx_bits.specs.Views.{bits_of};
+ghost use Rattle.sx_spec_strings.specs.Bits.{tagged};
 ghost use Rattle.sx_spec.specs.Layout.{layout};
-ghost use Rattle.sx_spec.specs.Reply.{reads, reply, reply_number};
+ghost use Rattle.sx_spec.specs.Reply.{reads, reply, reply_number, string_reply};
+ghost use Rattle.sx_spec.specs.Signature.{signature};
 ghost use Rattle.sx_dump.specs.Opening.{IsOpened, dump_in};
-ghost use Rattle.sx_dump.specs.Viewing.{IsFuncView, IsHollowView, IsLcp2View, IsLcpView, IsViewOf};
+ghost use Rattle.sx_dump.specs.Replying.{kept_reads, place_kept, string_reads};
+ghost use Rattle.sx_dump.specs.Viewing.{IsFuncView, IsHollowView, IsKeptView, IsLcp2View, IsLcpView, IsViewOf};
 
-use crate::view::{View, view_of};
+use crate::view::{View, kept_of, view_of};
 use std::alloc::{AllocError, Global};
 use std::sync::ledger::Ledger;
 use sx_bits::BitView;
 use sx_fields::bank::WordBank;
+use sx_fields::packed::Packed;
 use sx_hollow::HollowView;
 use sx_lcp::{Lcp2View, LcpView};
 use sx_sections::header::Header;
 use sx_sections::open::Opened;
 use sx_sections::walk::Places;
-use sx_sig::sign;
+use sx_sig::{Signature, sign};
+use sx_signed::where_kept;
 use sx_spec::Kind;
 use sx_static::FuncView;
 use sx_steps::Steps;
@@ -29,8 +35,11 @@ pub struct Dump<B: WordBank + Copy> {
     /// Where its sections stand.
     pub(crate) places: Places,
     pub(crate) view: View<B>,
+    /// What is kept of the signatures of its keys, where it is signed.
+    pub(crate) kept: Option<Packed<B>>,
     ghost opened: { IsOpened (B.words_of bank) header places.items },
     ghost viewed: { IsViewOf (B.words_of bank) view },
+    ghost numbers: { IsKeptView (B.words_of bank) kept },
 }
 
 impl<B: WordBank + Copy> Dump<B> {
@@ -43,11 +52,13 @@ impl<B: WordBank + Copy> Dump<B> {
         ensures { IfOk result (λ d. d.bank ≡ bank) }
     {
         let view = view_of(alloc, bank, &opened)?;
+        let kept = kept_of(bank, &opened);
         Ok(Dump {
             bank,
             header: opened.header,
             places: opened.places,
             view,
+            kept,
         })
     }
 
@@ -80,7 +91,8 @@ impl<B: WordBank + Copy> Dump<B> {
     }
 
     /// The reply to a line of at most 8,191 bytes, in at most as many reads of words as its kind
-    /// takes: for a key its value, for any other line whatever the sections give.
+    /// takes, and two more of a signed dump: for a key its value, and for any other line whatever the
+    /// sections give. A signed dump gives none where it doesn't keep the line's number at the place.
     #[inline(always)]
     pub fn reply<L: Ledger>(&self, line: &[u8], steps: &mut Steps<L>) -> i128
         requires { length line.now ≤ 8191 }
@@ -89,89 +101,132 @@ impl<B: WordBank + Copy> Dump<B> {
         ensures counted { steps.old ≤ steps.new }
         ensures cost { steps.new ≤ steps.old + reads (dump_in (B.words_of self.now.bank)) line.now }
     {
+        number_of(self.string_reply(&BitView::key_bits(line), steps))
+    }
+
+    /// The reply to a string, which goes by the kind. A signature of the string is made once, and none
+    /// where the kind makes none and the dump isn't signed.
+    #[inline(always)]
+    fn string_reply<L: Ledger>(&self, key: &BitView<'_>, steps: &mut Steps<L>) -> Option<u64>
+        ensures value { result ≡ string_reply (dump_in (B.words_of self.now.bank)) (bits_of key.now) }
+        ensures counted { steps.old ≤ steps.new }
+        ensures cost { steps.new
+            ≤ steps.old + string_reads (dump_in (B.words_of self.now.bank)) (bits_of key.now) }
+    {
         match &self.view {
-            View::Func(values) => self.reply_by_function(values, line, steps),
-            View::Lcp(lcp) => self.reply_by_lcp(lcp, line, steps),
-            View::Lcp2(lcp2) => self.reply_by_lcp2(lcp2, line, steps),
-            View::Hollow(hollow) => self.reply_by_hollow(hollow, line, steps),
+            View::Func(values) => self.reply_by_function(values, key, steps),
+            View::Lcp(lcp) => self.reply_by_lcp(lcp, key, steps),
+            View::Lcp2(lcp2) => self.reply_by_lcp2(lcp2, key, steps),
+            View::Hollow(hollow) => self.reply_by_hollow(hollow, key, steps),
         }
     }
 
-    /// The same of a static function, in at most eight reads of words.
+    /// The same of a static function, whose value takes at most eight reads of words.
     #[inline(always)]
     fn reply_by_function<L: Ledger>(
         &self,
         values: &FuncView<B>,
-        line: &[u8],
+        key: &BitView<'_>,
         steps: &mut Steps<L>,
-    ) -> i128
-        requires short { length line.now ≤ 8191 }
-        requires function { IsFuncView (B.words_of self.now.bank) values.now }
-        ensures value { result
-            ≡ reply_number (reply (dump_in (B.words_of self.now.bank)) line.now) }
+    ) -> Option<u64>
+        requires { IsFuncView (B.words_of self.now.bank) values.now }
+        ensures value { result ≡ string_reply (dump_in (B.words_of self.now.bank)) (bits_of key.now) }
         ensures counted { steps.old ≤ steps.new }
-        ensures cost { steps.new ≤ steps.old + reads (dump_in (B.words_of self.now.bank)) line.now }
+        ensures cost { steps.new
+            ≤ steps.old + string_reads (dump_in (B.words_of self.now.bank)) (bits_of key.now) }
     {
-        let sig = sign(
-            self.header.seed,
-            &BitView::key_bits(line),
-            None,
-            self.header.plan.sig_bits,
-        );
-        i128::from(values.answer(&sig, steps))
+        let sig = self.signature_of(key);
+        let value = values.answer(&sig, steps);
+        self.where_kept(Some(value), &sig, steps)
     }
 
-    /// The same of the kind `lcp`, in at most 16 reads of words.
+    /// The same of the kind `lcp`, whose place takes at most 16 reads of words.
     #[inline(always)]
-    fn reply_by_lcp<L: Ledger>(&self, lcp: &LcpView<B>, line: &[u8], steps: &mut Steps<L>) -> i128
-        requires short { length line.now ≤ 8191 }
-        requires view { IsLcpView (B.words_of self.now.bank) lcp.now }
-        ensures value { result
-            ≡ reply_number (reply (dump_in (B.words_of self.now.bank)) line.now) }
+    fn reply_by_lcp<L: Ledger>(
+        &self,
+        lcp: &LcpView<B>,
+        key: &BitView<'_>,
+        steps: &mut Steps<L>,
+    ) -> Option<u64>
+        requires { IsLcpView (B.words_of self.now.bank) lcp.now }
+        ensures value { result ≡ string_reply (dump_in (B.words_of self.now.bank)) (bits_of key.now) }
         ensures counted { steps.old ≤ steps.new }
-        ensures cost { steps.new ≤ steps.old + reads (dump_in (B.words_of self.now.bank)) line.now }
+        ensures cost { steps.new
+            ≤ steps.old + string_reads (dump_in (B.words_of self.now.bank)) (bits_of key.now) }
     {
         let header = &self.header;
-        let key = BitView::key_bits(line);
-        number_of(lcp.answer(&key, header.seed, header.plan.sig_bits, steps))
+        let sig = self.signature_of(key);
+        let place = lcp.answer(key, &sig, header.seed, header.plan.sig_bits, steps);
+        self.where_kept(place, &sig, steps)
     }
 
-    /// The same of the kind `lcp2`, in at most 34 reads of words.
+    /// The same of the kind `lcp2`, whose place takes at most 34 reads of words.
     #[inline(always)]
     fn reply_by_lcp2<L: Ledger>(
         &self,
         lcp2: &Lcp2View<B>,
-        line: &[u8],
+        key: &BitView<'_>,
         steps: &mut Steps<L>,
-    ) -> i128
-        requires short { length line.now ≤ 8191 }
-        requires view { IsLcp2View (B.words_of self.now.bank) lcp2.now }
-        ensures value { result
-            ≡ reply_number (reply (dump_in (B.words_of self.now.bank)) line.now) }
+    ) -> Option<u64>
+        requires { IsLcp2View (B.words_of self.now.bank) lcp2.now }
+        ensures value { result ≡ string_reply (dump_in (B.words_of self.now.bank)) (bits_of key.now) }
         ensures counted { steps.old ≤ steps.new }
-        ensures cost { steps.new ≤ steps.old + reads (dump_in (B.words_of self.now.bank)) line.now }
+        ensures cost { steps.new
+            ≤ steps.old + string_reads (dump_in (B.words_of self.now.bank)) (bits_of key.now) }
     {
         let header = &self.header;
-        let key = BitView::key_bits(line);
-        number_of(lcp2.answer(&key, header.seed, header.plan.sig_bits, steps))
+        let sig = self.signature_of(key);
+        let place = lcp2.answer(key, &sig, header.seed, header.plan.sig_bits, steps);
+        self.where_kept(place, &sig, steps)
     }
 
-    /// The same of the kind `hollow`, in at most 162 reads of words for each bit of the line. No
-    /// signature is made.
+    /// The same of the kind `hollow`, whose place takes at most 162 reads of words for each bit of the
+    /// string. A signature is made only where a place is to be checked.
     fn reply_by_hollow<L: Ledger>(
         &self,
         hollow: &HollowView<B>,
-        line: &[u8],
+        key: &BitView<'_>,
         steps: &mut Steps<L>,
-    ) -> i128
-        requires short { length line.now ≤ 8191 }
-        requires view { IsHollowView (B.words_of self.now.bank) hollow.now }
-        ensures value { result
-            ≡ reply_number (reply (dump_in (B.words_of self.now.bank)) line.now) }
+    ) -> Option<u64>
+        requires { IsHollowView (B.words_of self.now.bank) hollow.now }
+        ensures value { result ≡ string_reply (dump_in (B.words_of self.now.bank)) (bits_of key.now) }
         ensures counted { steps.old ≤ steps.new }
-        ensures cost { steps.new ≤ steps.old + reads (dump_in (B.words_of self.now.bank)) line.now }
+        ensures cost { steps.new
+            ≤ steps.old + string_reads (dump_in (B.words_of self.now.bank)) (bits_of key.now) }
     {
-        number_of(hollow.answer(&BitView::key_bits(line), steps))
+        let place = hollow.answer(key, steps)?;
+        match &self.kept {
+            None => Some(place),
+            Some(kept) => where_kept(kept, place, &self.signature_of(key), steps),
+        }
+    }
+
+    /// The signature of a string by the header.
+    #[inline(always)]
+    fn signature_of(&self, key: &BitView<'_>) -> Signature
+        ensures { result ≡ signature self.now.header.seed self.now.header.plan.sig_bits
+            (tagged None (bits_of key.now)) }
+    {
+        sign(self.header.seed, key, None, self.header.plan.sig_bits)
+    }
+
+    /// The place of a string with this signature, and of a signed dump only where the number that it
+    /// keeps there is the signature's. At most two words are read, and none of an unsigned dump.
+    #[inline(always)]
+    fn where_kept<L: Ledger>(
+        &self,
+        place: Option<u64>,
+        sig: &Signature,
+        steps: &mut Steps<L>,
+    ) -> Option<u64>
+        ensures value { result ≡ place_kept (dump_in (B.words_of self.now.bank)) sig.now place }
+        ensures counted { steps.old ≤ steps.new }
+        ensures cost { steps.new ≤ steps.old + kept_reads (dump_in (B.words_of self.now.bank)) }
+    {
+        match &self.kept {
+            None => place,
+            Some(kept) => where_kept(kept, place?, sig, steps),
+        }
     }
 }
 

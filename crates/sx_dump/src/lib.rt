@@ -14,4 +14,6 @@ pub use words::{push_words, put_words, words_of};
 #[cfg(test)]
 mod open_tests;
 #[cfg(test)]
+mod signed_tests;
+#[cfg(test)]
 mod tests;

@@ -32,8 +32,8 @@ pub enum OpenFault {
 ///
 /// # Errors
 /// The number of the first check that fails: 1 to 10 of the file's size and its header, where kinds
-/// that aren't opened fail check 4 and signed dumps check 9; 11 to 17 of the sections; 18 where words
-/// follow them. Where none fails, want of memory.
+/// that aren't opened fail check 4; 11 to 17 of the sections; 18 where words follow them. Where none
+/// fails, want of memory.
 pub fn open_dump<B: WordBank + Copy>(
     alloc: Global,
     words: &[u64],

@@ -2,7 +2,7 @@
 
 ghost use Rattle.std.specs.Prelude.{◌≡◌, IfOk};
 ghost use Rattle.sx_dump.specs.Opening.{IsFunctionAt, IsListAt, IsOpened, IsSumsAt};
-ghost use Rattle.sx_dump.specs.Viewing.{IsHollowView, IsLcp2View, IsLcpView, IsViewOf, ReadsFunction, ReadsNumbers, ReadsSums};
+ghost use Rattle.sx_dump.specs.Viewing.{IsHollowView, IsKeptView, IsLcp2View, IsLcpView, IsViewOf, ReadsFunction, ReadsNumbers, ReadsSums};
 
 use std::alloc::{AllocError, Global};
 use sx_ef::view::EliasFano;
@@ -54,6 +54,19 @@ fn list_at<B: WordBank + Copy>(bank: B, opened: &Opened, i: usize) -> Packed<B>
         }
         Place::Function(_) | Place::Sums(_) | Place::Corrections(_) => unreachable!(),
     }
+}
+
+/// What the dump in a bank of words that were opened keeps of the signatures of its keys: the numbers
+/// of its last section where it is signed, and else nothing.
+pub fn kept_of<B: WordBank + Copy>(bank: B, opened: &Opened) -> Option<Packed<B>>
+    requires { IsOpened (B.words_of bank) opened.now.header opened.now.places.items }
+    ensures { IsKeptView (B.words_of bank) result }
+{
+    if opened.header.plan.signed == 0 {
+        return None;
+    }
+    let last = opened.places.len() - 1;
+    Some(list_at(bank, opened, last))
 }
 
 /// The numbers of section `i`, an Elias-Fano list, of the dump in a bank of words that were opened.

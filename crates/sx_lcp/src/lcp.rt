@@ -1,9 +1,11 @@
 //! The distributor that reads one number for a string, which gives its offset and the length of its
 //! block's prefix.
 
-ghost use Rattle.std.specs.Prelude.{◌≡◌, ◌+◌, ◌≤◌, ◌<◌, ◌^◌};
+ghost use Rattle.std.specs.Prelude.{◌≡◌, ◌+◌, ◌≤◌, ◌<◌, ◌^◌, None};
+ghost use Rattle.sx_spec_strings.specs.Bits.{tagged};
 ghost use Rattle.sx_spec_kinds.specs.Blocks.{block_size};
 ghost use Rattle.sx_spec_kinds.specs.Lcp.{lcp_reply};
+ghost use Rattle.sx_spec.specs.Signature.{signature};
 ghost use Rattle.sx_bits.specs.Views.{bits_of};
 ghost use Rattle.sx_lcp.specs.Views.{answers_by};
 
@@ -12,7 +14,7 @@ use std::alloc::AllocError;
 use std::sync::ledger::Ledger;
 use sx_bits::BitView;
 use sx_fields::bank::WordBank;
-use sx_sig::sign;
+use sx_sig::Signature;
 use sx_static::FuncView;
 use sx_steps::Steps;
 
@@ -63,26 +65,27 @@ impl<B: WordBank + Copy> LcpView<B> {
         }
     }
 
-    /// The reply to a string under a seed, with so many bits of a signature, at most 192: the rank of
-    /// a key, and for any other string a number below the number of keys or none. At most 16 words
-    /// are read.
+    /// The reply to a string under a seed, with so many bits of a signature, at most 192, and with its
+    /// own signature: the rank of a key, and for any other string a number below the number of keys or
+    /// none. At most 16 words are read.
     #[inline(always)]
     pub fn answer<L: Ledger>(
         &self,
         view: &BitView<'_>,
+        sig: &Signature,
         seed: u64,
         sig_bits: u32,
         steps: &mut Steps<L>,
     ) -> Option<u64>
-        requires { sig_bits ≤ 192 }
+        requires kept { sig_bits ≤ 192 }
+        requires signed { sig.now ≡ signature seed sig_bits (tagged None (bits_of view.now)) }
         ensures value { result ≡ lcp_reply self.now.keys (block_size self.now.log_bucket)
             (answers_by self.now.lengths seed sig_bits)
             (answers_by self.now.prefixes seed sig_bits) (bits_of view.now) }
         ensures counted { steps.old ≤ steps.new }
         ensures cost { steps.new ≤ steps.old + 16 }
     {
-        let sig = sign(seed, view, None, sig_bits);
-        let number = self.lengths.answer(&sig, steps);
+        let number = self.lengths.answer(sig, steps);
         let len = number >> self.log_bucket;
         let offset = number % (1 << self.log_bucket);
         let block = block_by_prefix(&self.prefixes, len, view, seed, sig_bits, steps)?;

@@ -1,11 +1,13 @@
 //! The distributor that reads a string's offset, and the length of its block's prefix by a two-step
 //! code.
 
-ghost use Rattle.std.specs.Prelude.{◌≡◌, ◌+◌, ◌≤◌, ◌<◌, ◌^◌};
+ghost use Rattle.std.specs.Prelude.{◌≡◌, ◌+◌, ◌≤◌, ◌<◌, ◌^◌, None};
 ghost use Rattle.sx_fields.specs.declared.fields.Fields.{Ghosts as FieldGhosts};
+ghost use Rattle.sx_spec_strings.specs.Bits.{tagged};
 ghost use Rattle.sx_spec_kinds.specs.Blocks.{block_size};
 ghost use Rattle.sx_spec_kinds.specs.Lcp.{lcp2_reply};
 ghost use Rattle.sx_bits.specs.Views.{bits_of};
+ghost use Rattle.sx_spec.specs.Signature.{signature};
 ghost use Rattle.sx_spec.specs.StaticFunction.{value_of};
 ghost use Rattle.sx_lcp.specs.Views.{answers_by, function_read, length_by};
 
@@ -16,7 +18,7 @@ use sx_bits::BitView;
 use sx_fields::bank::WordBank;
 use sx_fields::fields::Fields;
 use sx_fields::packed::Packed;
-use sx_sig::{Signature, sign};
+use sx_sig::Signature;
 use sx_static::FuncView;
 use sx_steps::Steps;
 
@@ -82,18 +84,20 @@ impl<B: WordBank + Copy> Lcp2View<B> {
         }
     }
 
-    /// The reply to a string under a seed, with so many bits of a signature, at most 192: the rank of
-    /// a key, and for any other string a number below the number of keys or none. At most 34 words
-    /// are read.
+    /// The reply to a string under a seed, with so many bits of a signature, at most 192, and with its
+    /// own signature: the rank of a key, and for any other string a number below the number of keys or
+    /// none. At most 34 words are read.
     #[inline(always)]
     pub fn answer<L: Ledger>(
         &self,
         view: &BitView<'_>,
+        sig: &Signature,
         seed: u64,
         sig_bits: u32,
         steps: &mut Steps<L>,
     ) -> Option<u64>
-        requires { sig_bits ≤ 192 }
+        requires kept { sig_bits ≤ 192 }
+        requires signed { sig.now ≡ signature seed sig_bits (tagged None (bits_of view.now)) }
         ensures value { result ≡ lcp2_reply self.now.keys (block_size self.now.log_bucket)
             (answers_by self.now.offsets seed sig_bits) (answers_by self.now.codes seed sig_bits)
             (⟦<Packed<B> as Fields>⟧.items self.now.table)
@@ -102,9 +106,8 @@ impl<B: WordBank + Copy> Lcp2View<B> {
         ensures counted { steps.old ≤ steps.new }
         ensures cost { steps.new ≤ steps.old + 34 }
     {
-        let sig = sign(seed, view, None, sig_bits);
-        let offset = self.offsets.answer(&sig, steps);
-        let len = self.length_of(&sig, steps);
+        let offset = self.offsets.answer(sig, steps);
+        let len = self.length_of(sig, steps);
         let block = block_by_prefix(&self.prefixes, len, view, seed, sig_bits, steps)?;
         place_in(block, offset, self.keys, self.log_bucket)
     }

@@ -8,6 +8,7 @@ use std::test::Fail;
 use sx_bits::BitView;
 use sx_fields::bank::Words;
 use sx_fields::packed::Packed;
+use sx_sig::sign;
 use sx_static::{FuncView, function_check};
 use sx_steps::Steps;
 
@@ -54,7 +55,8 @@ fn lcp_counted<L: Ledger>(
         keys,
         log_bucket,
     );
-    view.answer(&BitView::key_bits(line), 7, 192, &mut steps)
+    let key = BitView::key_bits(line);
+    view.answer(&key, &sign(7, &key, None, 192), 7, 192, &mut steps)
 }
 
 /// The reply to a line by the sections of the lengths and the prefixes.
@@ -106,7 +108,8 @@ fn lcp2_counted<L: Ledger>(codes: &[u64], escaped: &[u64], blank: Blank) -> Opti
         12,
         2,
     );
-    view.answer(&BitView::key_bits(b"a"), 7, 192, &mut steps)
+    let key = BitView::key_bits(b"a");
+    view.answer(&key, &sign(7, &key, None, 192), 7, 192, &mut steps)
 }
 
 /// The reply to a string of 16 bits with this code and this escaped length, where the codes 0, 1

@@ -1,6 +1,6 @@
 use Rattle.std.proofs.Common.{◌<◌, ◌^◌, inl, inr, arith, ◌∙◌}
 use Rattle.sx_sections.specs.Places.{IsListed}
-use Rattle.sx_dump.proofs.Sections.{numbers_are, place_read}
+use Rattle.sx_dump.proofs.Sections.{numbers_are, place_read, width_is}
 use Rattle.sx_dump.proofs.view.list_at.Goals as goal
 
 pub new-requires-clause-narrow : goal.new-requires-clause-narrow
@@ -36,4 +36,7 @@ returns g c =
     let words = g.B.WordBank.words_of c.args.bank in
     let o = c.args.opened.now in
     let there = place_read o.places.items c.as_slice.result.now c.args.i _ _ _ c.as_slice.ensures.value c.requires.list.there c.in-List.is in
-    record { numbers = c.new.ensures.items ∙ numbers_are words o.header o.places.items c.requires.opened c.args.i c.in-List.section there }
+    record {
+      numbers = c.new.ensures.items ∙ numbers_are words o.header o.places.items c.requires.opened c.args.i c.in-List.section there;
+      width = c.new.ensures.width ∙ width_is words o.header o.places.items c.requires.opened c.args.i c.in-List.section there;
+    }

@@ -1,25 +1,38 @@
-use Rattle.std.proofs.Common.{FitsSigned, length, arith, rules, ap, ◌∙◌}
-use Rattle.std.specs.Int.{w128}
-use Rattle.std.proofs.lemmas.Int.{to_z-of_z}
+use Rattle.std.proofs.Common.{◌∙◌, ℕ, Option, Some, refl}
+use Rattle.sx_bits.specs.Views.{bits_of}
 use Rattle.sx_spec_kinds.specs.declared.Kind.TheVariants.{Hollow}
-use Rattle.sx_spec_strings.specs.Bits.{Bits}
-use Rattle.sx_spec.specs.Reply.{reply_number}
-use Rattle.sx_dump.proofs.Replies.{hollow_reply_is, reads_are}
+use Rattle.sx_spec.specs.Reply.{sign}
+use Rattle.sx_dump.specs.Opening.{dump_in}
+use Rattle.sx_dump.proofs.Replies.{hollow_place_is, none_kept, reply_is, sign_is, signed_kept, unsigned_kept}
 use Rattle.sx_dump.proofs.dump.Dump.reply_by_hollow.Goals as goal
 
-pub returns-clause-value : goal.returns-clause-value
-returns-clause-value g c =
-    let d = c.args.self.now in
-    let words = g.B.WordBank.words_of d.bank in
-    let fits : FitsSigned w128 c.number_of.result = search rules in
-    to_z-of_z w128 c.number_of.result fits
-    ∙ c.number_of.ensures
-    ∙ ap reply_number (c.answer.ensures.value ∙ hollow_reply_is words d.header d.places.items d.opened c.args.hollow.now c.requires.view c.args.line.now _ c.key_bits.ensures)
+pub returns-in_err-place-clause-value : goal.returns-in_err-place-clause-value
+returns-in_err-place-clause-value g c =
+    let words = g.B.WordBank.words_of c.args.self.now.bank in
+    let bits = bits_of c.args.key.now in
+    let sig = sign (dump_in words).header bits in
+    reply_is words Hollow c.requires.kind bits sig c.answer.result _ refl
+    (c.answer.ensures.value ∙ hollow_place_is words c.args.hollow.now c.requires bits)
+    (c.from_residual.ensures ∙ none_kept (dump_in words) sig c.answer.result c.in_err-place.was)
 
-pub returns-clause-cost : goal.returns-clause-cost
-returns-clause-cost g c =
+pub returns-in-None-clause-value : goal.returns-in-None-clause-value
+returns-in-None-clause-value g c =
     let d = c.args.self.now in
     let words = g.B.WordBank.words_of d.bank in
-    let long = ap (λ (x : Bits). length x) c.key_bits.ensures in
-    let cost = reads_are words d.header d.places.items d.opened Hollow c.requires.view.kind c.args.line.now in
-    omega (arith, cost, long)
+    let bits = bits_of c.args.key.now in
+    let sig = sign (dump_in words).header bits in
+    let place : Option ℕ = Some c.in_ok-place.place in
+    reply_is words Hollow c.requires.kind bits sig place place refl
+    (c.in_ok-place.ensures.value ∙ hollow_place_is words c.args.hollow.now c.requires bits)
+    (unsigned_kept (dump_in words) sig place (d.numbers.none c.in-None.is))
+
+pub returns-in-Some-clause-value : goal.returns-in-Some-clause-value
+returns-in-Some-clause-value g c =
+    let d = c.args.self.now in
+    let words = g.B.WordBank.words_of d.bank in
+    let bits = bits_of c.args.key.now in
+    let sig = c.signature_of.result in
+    let place : Option ℕ = Some c.in_ok-place.place in
+    reply_is words Hollow c.requires.kind bits sig place c.where_kept.result (sign_is words d.header d.places.items d.opened bits sig c.signature_of.ensures)
+    (c.in_ok-place.ensures.value ∙ hollow_place_is words c.args.hollow.now c.requires bits)
+    (signed_kept words c.in-Some.kept (d.numbers.some c.in-Some.kept c.in-Some.is) sig place place c.where_kept.result refl c.where_kept.ensures.value)

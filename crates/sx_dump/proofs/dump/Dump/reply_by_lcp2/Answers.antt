@@ -1,23 +1,20 @@
-use Rattle.std.proofs.Common.{FitsSigned, arith, rules, ap, ◌∙◌}
-use Rattle.std.specs.Int.{w128}
-use Rattle.std.proofs.lemmas.Int.{to_z-of_z}
+use Rattle.std.proofs.Common.{arith, ◌∙◌}
+use Rattle.sx_bits.specs.Views.{bits_of}
 use Rattle.sx_spec_kinds.specs.declared.Kind.TheVariants.{Lcp2}
-use Rattle.sx_spec.specs.Reply.{reply_number}
-use Rattle.sx_dump.proofs.Replies.{lcp2_reply_is, reads_are}
+use Rattle.sx_dump.proofs.Replies.{lcp2_place_is, reads_are, reply_is, sign_is}
 use Rattle.sx_dump.proofs.dump.Dump.reply_by_lcp2.Goals as goal
 
 pub returns-clause-value : goal.returns-clause-value
 returns-clause-value g c =
     let d = c.args.self.now in
     let words = g.B.WordBank.words_of d.bank in
-    let fits : FitsSigned w128 c.number_of.result = search rules in
-    to_z-of_z w128 c.number_of.result fits
-    ∙ c.number_of.ensures
-    ∙ ap reply_number (c.answer.ensures.value ∙ lcp2_reply_is words d.header d.places.items d.opened c.args.lcp2.now c.requires.view c.args.line.now _ c.key_bits-key.ensures)
+    let bits = bits_of c.args.key.now in
+    let sig = c.signature_of-sig.result in
+    reply_is words Lcp2 c.requires.kind bits sig c.answer-place.result _ (sign_is words d.header d.places.items d.opened bits sig c.signature_of-sig.ensures)
+    (c.answer-place.ensures.value ∙ lcp2_place_is words d.header d.places.items d.opened c.args.lcp2.now c.requires bits) c.where_kept.ensures.value
 
 pub returns-clause-cost : goal.returns-clause-cost
 returns-clause-cost g c =
-    let d = c.args.self.now in
-    let words = g.B.WordBank.words_of d.bank in
-    let cost = reads_are words d.header d.places.items d.opened Lcp2 c.requires.view.kind c.args.line.now in
+    let words = g.B.WordBank.words_of c.args.self.now.bank in
+    let cost = reads_are words Lcp2 c.requires.kind (bits_of c.args.key.now) in
     omega (arith, cost)
