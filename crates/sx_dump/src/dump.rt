@@ -47,7 +47,7 @@ impl<B: WordBank + Copy> Dump<B> {
     /// The dump in a bank of words that were opened.
     ///
     /// # Errors
-    /// Only for want of memory: directories of Elias-Fano lists are held.
+    /// Only for want of memory: directories of Elias-Fano lists are held, and nodes of hollow tries.
     pub(crate) fn new(alloc: Global, bank: B, opened: Opened) -> Result<Self, AllocError>
         requires { IsOpened (B.words_of bank) opened.header opened.places.items }
         ensures { IfOk result (λ d. d.bank ≡ bank) }
@@ -205,7 +205,7 @@ impl<B: WordBank + Copy> Dump<B> {
     }
 
     /// The same of the kind `hollowdist`, whose place takes at most 170 reads of words for each bit of
-    /// the string and 24.
+    /// the string and 16.
     fn reply_by_hollow_dist<L: Ledger>(
         &self,
         dist: &HollowDistributor<B>,

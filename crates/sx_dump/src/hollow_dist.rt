@@ -58,7 +58,7 @@ impl<B: WordBank + Copy> HollowDistributor<B> {
 
     /// The reply to a string of at least eight bits under a seed, with so many bits of a signature, at
     /// most 192, and with its own signature: the rank of a key, and for any other string a number below
-    /// the number of keys or none. At most 170 words for each bit of the string and 24 are read.
+    /// the number of keys or none. At most 170 words for each bit of the string and 16 are read.
     pub fn answer<L: Ledger>(
         &self,
         view: &BitView<'_>,
@@ -76,7 +76,7 @@ impl<B: WordBank + Copy> HollowDistributor<B> {
             (turns_by self.now.blocks.turns seed sig_bits) self.now.blocks.delimiters
             (bits_of view.now) }
         ensures counted { steps.old ≤ steps.new }
-        ensures cost { steps.new ≤ steps.old + (170 * length (bits_of view.now) + 24) }
+        ensures cost { steps.new ≤ steps.old + (170 * length (bits_of view.now) + 16) }
     {
         let block = self.blocks.block(view, seed, sig_bits, steps)?;
         let offset = self.offsets.answer(sig, steps);

@@ -131,7 +131,7 @@ fn lcp2_view<B: WordBank + Copy>(bank: B, opened: &Opened) -> Lcp2View<B>
 /// The hollow trie of the dump of kind `hollow` in a bank of words that were opened.
 ///
 /// # Errors
-/// Only for want of memory: directories of its two lists are held.
+/// Only for want of memory: directories of its two lists are held, and its nodes with most leaves.
 fn hollow_view<B: WordBank + Copy>(
     alloc: Global,
     bank: B,
@@ -150,7 +150,7 @@ fn hollow_view<B: WordBank + Copy>(
 /// The distributor of the dump of kind `hollowdist` in a bank of words that were opened.
 ///
 /// # Errors
-/// Only for want of memory: directories of its two lists are held.
+/// Only for want of memory: directories of its two lists are held, and its nodes with most leaves.
 fn hollow_dist_view<B: WordBank + Copy>(
     alloc: Global,
     bank: B,
@@ -167,18 +167,13 @@ fn hollow_dist_view<B: WordBank + Copy>(
     let delimiters = delimiter_count(&opened.header);
     let blocks = HollowDistView::over(alloc, left, skip, turns, delimiters)?;
     let keys = u64::from(opened.header.keys);
-    Ok(HollowDistributor::new(
-        offsets,
-        blocks,
-        keys,
-        opened.header.plan.log_bucket,
-    ))
+    Ok(HollowDistributor::new(offsets, blocks, keys, opened.header.plan.log_bucket))
 }
 
 /// What answers for the dump in a bank of words that were opened.
 ///
 /// # Errors
-/// Only for want of memory: directories of Elias-Fano lists are held.
+/// Only for want of memory: directories of Elias-Fano lists are held, and nodes of hollow tries.
 pub fn view_of<B: WordBank + Copy>(
     alloc: Global,
     bank: B,

@@ -35,7 +35,7 @@ pub returns-clause-value : goal.returns-clause-value
 returns-clause-value g c =
     let v = c.args.self.now in
     let x = bits_of c.args.view.now in
-    dist_is v.keys (block_size v.log_bucket) (gaps (sums_read v.blocks.left)) (gaps (sums_read v.blocks.skip)) (answers_by v.offsets c.args.seed c.args.sig_bits)
+    dist_is _ _ (gaps (sums_read v.blocks.left)) (gaps (sums_read v.blocks.skip)) (answers_by v.offsets c.args.seed c.args.sig_bits)
     (turns_by v.blocks.turns c.args.seed c.args.sig_bits) v.blocks.delimiters x _ (Some c.in_ok-block.block) _
     (c.answer-offset.ensures.value ∙ ap (value_of (function_read v.offsets)) (untagged c.args.seed c.args.sig_bits x c.args.sig.now c.requires.signed))
     c.in_ok-block.ensures.value c.place_in.ensures
