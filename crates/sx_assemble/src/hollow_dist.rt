@@ -27,7 +27,7 @@ use crate::signed::with_key_signatures;
 use crate::{Assembled, finished, header_of};
 use std::alloc::{AllocError, Global};
 use sx_bits::KeyList;
-use sx_hollow::{NodePair, hollow_lists, pairs};
+use sx_hollow::{NodePair, Turn, hollow_lists, pairs};
 use sx_sig::{Plan, Signature, sign};
 use sx_static::FuncBuf;
 
@@ -114,14 +114,24 @@ fn sign_pairs(
     Ok(sigs)
 }
 
-/// The number of each pair's turn.
-fn turn_numbers(alloc: Global, pairs: &[NodePair]) -> Result<Vec<u64>, AllocError>
-    ensures { IfOk result (λ numbers. numbers.items
-        ≡ map (λ p. turn_number p.turn) pairs.now) }
+/// The turn of each pair.
+fn turns_of(alloc: Global, pairs: &[NodePair]) -> Result<Vec<Turn>, AllocError>
+    ensures { IfOk result (λ turns. turns.items ≡ map (λ p. p.turn) pairs.now) }
 {
-    let mut numbers = Vec::with_capacity(alloc, pairs.len())?;
+    let mut turns = Vec::with_capacity(alloc, pairs.len())?;
     for pair in pairs {
-        numbers.push(pair.turn.number())?;
+        turns.push(pair.turn)?;
+    }
+    Ok(turns)
+}
+
+/// The numbers of turns.
+fn turn_numbers(alloc: Global, turns: &[Turn]) -> Result<Vec<u64>, AllocError>
+    ensures { IfOk result (λ numbers. numbers.items ≡ map turn_number turns.now) }
+{
+    let mut numbers = Vec::with_capacity(alloc, turns.len())?;
+    for turn in turns {
+        numbers.push(turn.number())?;
     }
     Ok(numbers)
 }
@@ -141,8 +151,8 @@ fn key_offsets(alloc: Global, keys: &KeyList, plan: &Plan, seed: u64) -> Result<
     offsets_function(alloc, &sigs, plan)
 }
 
-/// The function of part 1, which gives each fragment at a node of the trie its turn. The pairs are
-/// let go before the function is built.
+/// The function of part 1, which gives each fragment at a node of the trie its turn. Beside the pairs
+/// and their signatures turns have one byte each, and they are widened when the pairs are let go.
 fn turns_function(alloc: Global, keys: &KeyList, plan: &Plan, seed: u64) -> Result<FuncBuf, Stop>
     requires bucket { plan.now.log_bucket ≤ 12 }
     requires bits { plan.now.sig_bits ≤ 192 }
@@ -153,10 +163,11 @@ fn turns_function(alloc: Global, keys: &KeyList, plan: &Plan, seed: u64) -> Resu
         (StopsPart 1 plan.now.method (part_entries plan.now.sig_bits seed turns)) }
     ensures narrow { IfOk result (λ f. f.width ≤ 64) }
 {
-    let turns = delimiter_pairs(alloc, keys, plan.log_bucket)?;
-    let sigs = sign_pairs(alloc, keys, &turns, seed, plan.sig_bits)?;
+    let pairs = delimiter_pairs(alloc, keys, plan.log_bucket)?;
+    let turns = turns_of(alloc, &pairs)?;
+    let sigs = sign_pairs(alloc, keys, &pairs, seed, plan.sig_bits)?;
+    drop(pairs);
     let numbers = turn_numbers(alloc, &turns)?;
-    drop(turns);
     build_least(alloc, 1, &sigs, &numbers, plan.method)
 }
 

@@ -6,8 +6,9 @@ use Rattle.sx_fields.specs.declared.bank.WordBank.{Ghosts}
 use Rattle.sx_fields.specs.declared.packed.Packed.{Packed}
 use Rattle.sx_spec_kinds.specs.Blocks.{block_size}
 use Rattle.sx_spec_kinds.specs.declared.Kind.{Kind}
-use Rattle.sx_spec_kinds.specs.declared.Kind.TheVariants.{Func, Lcp, Lcp2, Hollow}
+use Rattle.sx_spec_kinds.specs.declared.Kind.TheVariants.{Func, Lcp, Lcp2, Hollow, HollowDist}
 use Rattle.sx_spec_kinds.specs.Hollow.{walk_of}
+use Rattle.sx_spec_kinds.specs.HollowDistributor.{hollow_dist_reply}
 use Rattle.sx_spec_kinds.specs.Lcp.{lcp_reply, lcp2_reply}
 use Rattle.sx_spec_kinds.specs.Reads.{reads_of, unsigned_reads}
 use Rattle.sx_spec_strings.specs.Bits.{Bits, tagged}
@@ -22,12 +23,14 @@ use Rattle.sx_signed.proofs.Lookups.{none_signed, signed_by_signature}
 use Rattle.sx_lcp.specs.declared.lcp.LcpView.{LcpView}
 use Rattle.sx_lcp.specs.declared.lcp2.Lcp2View.{Lcp2View}
 use Rattle.sx_hollow.specs.declared.view.HollowView.{HollowView}
+use Rattle.sx_hollow.specs.Dist.{turns_by}
 use Rattle.sx_lcp.specs.Views.{answers_by, function_read}
 use Rattle.sx_sections.specs.declared.header.Header.{Header}
 use Rattle.sx_sections.specs.declared.place.Place.{Place}
+use Rattle.sx_dump.specs.declared.hollow_dist.HollowDistributor.{HollowDistributor}
 use Rattle.sx_dump.specs.Opening.{IsOpened, dump_in}
 use Rattle.sx_dump.specs.Replying.{kept_reads, place_kept, string_reads}
-use Rattle.sx_dump.specs.Viewing.{IsFuncView, IsHollowView, IsLcp2View, IsLcpView, ReadsFunction, ReadsKept, numbers_by, sums_by}
+use Rattle.sx_dump.specs.Viewing.{IsFuncView, IsHollowDistView, IsHollowView, IsLcp2View, IsLcpView, ReadsFunction, ReadsKept, numbers_by, sums_by}
 
 -- ---- by what is kept
 
@@ -108,6 +111,14 @@ module _ (words : List ℕ) (h : Header) (places : List Place) (is : IsOpened wo
   lcp2_place_is v view bits =
       λ j. lcp2_reply (view.keys j) (block_size (view.bucket j)) (answers_are 0 v.offsets view.offsets j) (answers_are 1 v.codes view.codes j) (view.table.numbers j)
       (answers_are 3 v.escaped view.escaped j) (answers_are 4 v.prefixes view.prefixes j) bits
+
+  pub hollow_dist_place_is : {B : Type 0} {bank_of : Ghosts B} (v : HollowDistributor B bank_of) → IsHollowDistView words v → (bits : Bits)
+      → hollow_dist_reply v.keys (block_size v.log_bucket) (gaps (sums_by v.blocks.left)) (gaps (sums_by v.blocks.skip)) (answers_by v.offsets h.seed h.plan.sig_bits)
+      (turns_by v.blocks.turns h.seed h.plan.sig_bits) v.blocks.delimiters bits
+      ≡ kind_reply HollowDist (dump_in words) bits
+  hollow_dist_place_is v view bits =
+      λ j. hollow_dist_reply (view.keys j) (block_size (view.bucket j)) (gaps (view.lefts.numbers j)) (gaps (view.skips.numbers j)) (answers_are 0 v.offsets view.offsets j)
+      (answers_are 3 v.blocks.turns view.turns j) (view.delimiters j) bits
 
 -- ---- by hollow tries
 

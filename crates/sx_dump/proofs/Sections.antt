@@ -1,6 +1,6 @@
 -- Which sections the words of a dump hold, by its kind, and where they stand.
 use Rattle.std.proofs.Common.{◌≡◌, ℕ, zero, suc, ◌+◌, ◌-◌, ◌^◌, ◌<◌, ◌≤◌, ◌≢◌, Bool, true, false, List, [], ◌∷◌, ◌++◌, length, map, drop, codes, Option, Some, None, Result, Ok, Err, refl, sym, ap, subst, ◌∙◌, arith, append_assoc, append-nil}
-use Rattle.std.specs.Prelude.{◌==◌, ⊤, nat_le, slice_get, slice_index, slice_index_or, unwrap_or, if◌then◌else◌}
+use Rattle.std.specs.Prelude.{◌==◌, ⊤, min, nat_le, slice_get, slice_index, slice_index_or, unwrap_or, if◌then◌else◌}
 use Rattle.std.specs.Int.{is_in_range}
 use Rattle.std.specs.List.{last_or}
 use Rattle.std.specs.Result.{result_unwrap_or}
@@ -12,10 +12,10 @@ use Rattle.sx_ef.specs.declared.section.Sums.{Sums as SumsPlace}
 use Rattle.sx_fields.specs.declared.section.Section.{Section as Packed}
 use Rattle.sx_fields.proofs.Places.{length-fields}
 use Rattle.sx_spec_kinds.specs.declared.Kind.{Kind}
-use Rattle.sx_spec_kinds.specs.declared.Kind.TheVariants.{Func, Lcp, Lcp2, Hollow}
+use Rattle.sx_spec_kinds.specs.declared.Kind.TheVariants.{Func, Lcp, Lcp2, Hollow, HollowDist}
 use Rattle.sx_spec_strings.specs.First.{first_failing}
-use Rattle.sx_spec.specs.Kinds.{bucket_count}
-use Rattle.sx_spec.specs.Layout.{Header as HeaderOf, Section, SectionRule, Slot, are_sums, corrections_of, corrections_section, exact_list, function_checks, function_of, function_section, header_of, item_words, kind_slots, last_section, list_checks, list_of, list_section, section_checks, section_of, section_size, section_width, sections_in, slots, sums_checks, sums_low, sums_numbers, sums_of, sums_section, sums_upper, sums_upper_bits}
+use Rattle.sx_spec.specs.Kinds.{bucket_count, delimiter_count, inner_count}
+use Rattle.sx_spec.specs.Layout.{Header as HeaderOf, Section, SectionRule, Slot, are_sums, corrections_of, corrections_section, exact_list, function_checks, function_of, function_section, header_of, item_words, kind_slots, last_section, list_checks, list_of, list_section, section_checks, section_of, section_size, section_width, sections_in, slots, sums_checks, sums_low, sums_numbers, sums_of, sums_section, sums_upper, sums_upper_bits, u32_max}
 use Rattle.sx_spec.specs.Reply.{function_in, kept_numbers, numbers_in, section_at as section_of_dump}
 use Rattle.sx_spec_strings.proofs.Lists.{all_true}
 use Rattle.sx_static.specs.Viewing.{viewed}
@@ -341,6 +341,20 @@ module _ (words : List ℕ) (h : Header) (places : List Place) (is : IsOpened wo
   pub hollow_skip : head.plan.kind ≡ Hollow → IsSumsOf (head.keys - 1 + 1) (slice_index_or found 1 (sums_section []))
   hollow_skip same =
       slot_gives (IsSumsOf (head.keys - 1 + 1)) Hollow 1 (record { name = codes "skip"; rule = λ _. sums_of (head.keys - 1 + 1) }) same refl (λ b x fit. fit)
+
+  pub hollow_dist_offsets : head.plan.kind ≡ HollowDist → IsFunctionOf head.keys head.keys 0 32 (slice_index_or found 0 (sums_section []))
+  hollow_dist_offsets same = function_in_slot HollowDist 0 (codes "offsets") head.keys head.keys 0 32 same refl
+
+  pub hollow_dist_left : head.plan.kind ≡ HollowDist → IsSumsOf (inner_count head.plan head.keys + 1) (slice_index_or found 1 (sums_section []))
+  hollow_dist_left same =
+      slot_gives (IsSumsOf (inner_count head.plan head.keys + 1)) HollowDist 1 (record { name = codes "left"; rule = λ _. sums_of (inner_count head.plan head.keys + 1) }) same refl (λ b x fit. fit)
+
+  pub hollow_dist_skip : head.plan.kind ≡ HollowDist → IsSumsOf (inner_count head.plan head.keys + 1) (slice_index_or found 2 (sums_section []))
+  hollow_dist_skip same =
+      slot_gives (IsSumsOf (inner_count head.plan head.keys + 1)) HollowDist 2 (record { name = codes "skip"; rule = λ _. sums_of (inner_count head.plan head.keys + 1) }) same refl (λ b x fit. fit)
+
+  pub hollow_dist_turns : head.plan.kind ≡ HollowDist → IsFunctionOf 0 (min (head.keys + delimiter_count head.plan head.keys) u32_max) 0 32 (slice_index_or found 3 (sums_section []))
+  hollow_dist_turns same = function_in_slot HollowDist 3 (codes "turns") 0 (min (head.keys + delimiter_count head.plan head.keys) u32_max) 0 32 same refl
 
   -- ---- what such a row says
 

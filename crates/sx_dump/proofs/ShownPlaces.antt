@@ -95,7 +95,7 @@ IsShownKind Func = ⊤
 IsShownKind Lcp = ⊤
 IsShownKind Lcp2 = ⊤
 IsShownKind Hollow = ⊤
-IsShownKind HollowDist = ⊥
+IsShownKind HollowDist = ⊤
 IsShownKind Zfast = ⊥
 
 -- a list of signatures is one
@@ -112,7 +112,7 @@ kind_shown Func h is = ((λ before. tt), tt)
 kind_shown Lcp h is = ((λ before. tt), ((λ before. tt), tt))
 kind_shown Lcp2 h is = ((λ before. tt), ((λ before. tt), ((λ before. tt), ((λ before. tt), ((λ before. tt), tt)))))
 kind_shown Hollow h is = ((λ before. tt), ((λ before. tt), tt))
-kind_shown HollowDist h is = absurd is
+kind_shown HollowDist h is = ((λ before. tt), ((λ before. tt), ((λ before. tt), ((λ before. tt), tt))))
 kind_shown Zfast h is = absurd is
 
 -- a kind that is offered is one of functions and lists
@@ -121,7 +121,7 @@ offered_shown Func is = tt
 offered_shown Lcp is = tt
 offered_shown Lcp2 is = tt
 offered_shown Hollow is = tt
-offered_shown HollowDist is = absurd cc
+offered_shown HollowDist is = tt
 offered_shown Zfast is = absurd cc
 
 -- the places of what was opened are those of functions and lists

@@ -4,19 +4,21 @@ use Rattle.sx_ef.specs.Parts.{sums_of}
 use Rattle.sx_ef.specs.declared.view.EliasFano.{EliasFano}
 use Rattle.sx_fields.specs.declared.bank.WordBank.{Ghosts}
 use Rattle.sx_fields.specs.declared.packed.Packed.{Packed}
-use Rattle.sx_spec_kinds.specs.declared.Kind.TheVariants.{Func as FuncKind, Lcp as LcpKind, Lcp2 as Lcp2Kind, Hollow as HollowKind}
+use Rattle.sx_spec_kinds.specs.declared.Kind.TheVariants.{Func as FuncKind, Lcp as LcpKind, Lcp2 as Lcp2Kind, Hollow as HollowKind, HollowDist as HollowDistKind}
 use Rattle.sx_hollow.specs.declared.view.HollowView.{HollowView}
 use Rattle.sx_lcp.specs.declared.lcp.LcpView.{LcpView}
 use Rattle.sx_lcp.specs.declared.lcp2.Lcp2View.{Lcp2View}
 use Rattle.sx_ranksel.specs.Directory.{number_at}
 use Rattle.sx_spec.specs.Fields.{fields, ones_of}
+use Rattle.sx_spec.specs.Kinds.{delimiter_count}
 use Rattle.sx_spec.specs.Layout.{header_of, section_width}
 use Rattle.sx_spec.specs.Reply.{function_in, kept_numbers, numbers_of, section_at}
 use Rattle.sx_static.specs.Viewing.{viewed}
 use Rattle.sx_static.specs.declared.view.FuncView.{FuncView}
 use Rattle.sx_dump.specs.Opening.{dump_in}
+use Rattle.sx_dump.specs.declared.hollow_dist.HollowDistributor.{HollowDistributor}
 use Rattle.sx_dump.specs.declared.view.View.{View}
-use Rattle.sx_dump.specs.declared.view.View.TheVariants.{Func, Lcp, Lcp2, Hollow}
+use Rattle.sx_dump.specs.declared.view.View.TheVariants.{Func, Lcp, Lcp2, Hollow, HollowDist}
 
 -- the function that is read is that of section i of the dump in the words
 pub record ReadsFunction {B : Type 0} {bank_of : Ghosts B} (words : List ℕ) (i : ℕ) (v : FuncView B bank_of) : Type 0 where
@@ -83,9 +85,21 @@ pub record IsHollowView {B : Type 0} {bank_of : Ghosts B} (words : List ℕ) (v 
   pub skips : ReadsSums words 1 v.skip
   pub keys : v.keys ≡ (header_of words).keys
 
+-- the distributor is that of a dump of kind hollowdist in the words, with as many delimiters as the keys come to
+pub record IsHollowDistView {B : Type 0} {bank_of : Ghosts B} (words : List ℕ) (v : HollowDistributor B bank_of) : Type 0 where
+  pub kind : (header_of words).plan.kind ≡ HollowDistKind
+  pub offsets : ReadsFunction words 0 v.offsets
+  pub lefts : ReadsSums words 1 v.blocks.left
+  pub skips : ReadsSums words 2 v.blocks.skip
+  pub turns : ReadsFunction words 3 v.blocks.turns
+  pub delimiters : v.blocks.delimiters ≡ delimiter_count (header_of words).plan (header_of words).keys
+  pub keys : v.keys ≡ (header_of words).keys
+  pub bucket : v.log_bucket ≡ (header_of words).plan.log_bucket
+
 -- what answers is made from the sections of the dump in the words: a row for each kind
 pub record IsViewOf {B : Type 0} {bank_of : Ghosts B} (words : List ℕ) (view : View B bank_of) : Type 0 where
   pub func : (values : FuncView B bank_of) → view ≡ Func values → IsFuncView words values
   pub lcp : (lcp : LcpView B bank_of) → view ≡ Lcp lcp → IsLcpView words lcp
   pub lcp2 : (lcp2 : Lcp2View B bank_of) → view ≡ Lcp2 lcp2 → IsLcp2View words lcp2
   pub hollow : (hollow : HollowView B bank_of) → view ≡ Hollow hollow → IsHollowView words hollow
+  pub hollow_dist : (dist : HollowDistributor B bank_of) → view ≡ HollowDist dist → IsHollowDistView words dist

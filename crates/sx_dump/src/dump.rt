@@ -8,8 +8,9 @@ ghost use Rattle.sx_spec.specs.Reply.{reads, reply, reply_number, string_reply};
 ghost use Rattle.sx_spec.specs.Signature.{signature};
 ghost use Rattle.sx_dump.specs.Opening.{IsOpened, dump_in};
 ghost use Rattle.sx_dump.specs.Replying.{kept_reads, place_kept, string_reads};
-ghost use Rattle.sx_dump.specs.Viewing.{IsFuncView, IsHollowView, IsKeptView, IsLcp2View, IsLcpView, IsViewOf};
+ghost use Rattle.sx_dump.specs.Viewing.{IsFuncView, IsHollowDistView, IsHollowView, IsKeptView, IsLcp2View, IsLcpView, IsViewOf};
 
+use crate::hollow_dist::HollowDistributor;
 use crate::view::{View, kept_of, view_of};
 use std::alloc::{AllocError, Global};
 use std::sync::ledger::Ledger;
@@ -46,7 +47,7 @@ impl<B: WordBank + Copy> Dump<B> {
     /// The dump in a bank of words that were opened.
     ///
     /// # Errors
-    /// Only for want of memory: directories of Elias-Fano lists are held.
+    /// Only for want of memory: directories of Elias-Fano lists are held, and nodes of hollow tries.
     pub(crate) fn new(alloc: Global, bank: B, opened: Opened) -> Result<Self, AllocError>
         requires { IsOpened (B.words_of bank) opened.header opened.places.items }
         ensures { IfOk result (λ d. d.bank ≡ bank) }
@@ -104,10 +105,11 @@ impl<B: WordBank + Copy> Dump<B> {
         number_of(self.string_reply(&BitView::key_bits(line), steps))
     }
 
-    /// The reply to a string, which goes by the kind. A signature of the string is made once, and none
-    /// where the kind makes none and the dump isn't signed.
+    /// The reply to a string of at least eight bits, which goes by the kind. A signature of the string
+    /// is made once, and none where the kind makes none and the dump isn't signed.
     #[inline(always)]
     fn string_reply<L: Ledger>(&self, key: &BitView<'_>, steps: &mut Steps<L>) -> Option<u64>
+        requires { 8 ≤ length (bits_of key.now) }
         ensures value { result ≡ string_reply (dump_in (B.words_of self.now.bank)) (bits_of key.now) }
         ensures counted { steps.old ≤ steps.new }
         ensures cost { steps.new
@@ -118,6 +120,7 @@ impl<B: WordBank + Copy> Dump<B> {
             View::Lcp(lcp) => self.reply_by_lcp(lcp, key, steps),
             View::Lcp2(lcp2) => self.reply_by_lcp2(lcp2, key, steps),
             View::Hollow(hollow) => self.reply_by_hollow(hollow, key, steps),
+            View::HollowDist(dist) => self.reply_by_hollow_dist(dist, key, steps),
         }
     }
 
@@ -199,6 +202,27 @@ impl<B: WordBank + Copy> Dump<B> {
             None => Some(place),
             Some(kept) => where_kept(kept, place, &self.signature_of(key), steps),
         }
+    }
+
+    /// The same of the kind `hollowdist`, whose place takes at most 170 reads of words for each bit of
+    /// the string and 16.
+    fn reply_by_hollow_dist<L: Ledger>(
+        &self,
+        dist: &HollowDistributor<B>,
+        key: &BitView<'_>,
+        steps: &mut Steps<L>,
+    ) -> Option<u64>
+        requires dist { IsHollowDistView (B.words_of self.now.bank) dist.now }
+        requires whole { 8 ≤ length (bits_of key.now) }
+        ensures value { result ≡ string_reply (dump_in (B.words_of self.now.bank)) (bits_of key.now) }
+        ensures counted { steps.old ≤ steps.new }
+        ensures cost { steps.new
+            ≤ steps.old + string_reads (dump_in (B.words_of self.now.bank)) (bits_of key.now) }
+    {
+        let header = &self.header;
+        let sig = self.signature_of(key);
+        let place = dist.answer(key, &sig, header.seed, header.plan.sig_bits, steps);
+        self.where_kept(place, &sig, steps)
     }
 
     /// The signature of a string by the header.

@@ -2,6 +2,7 @@
 #![tactic(auto)]
 
 mod dump;
+mod hollow_dist;
 mod open;
 mod show;
 mod view;
@@ -11,6 +12,8 @@ pub use dump::Dump;
 pub use open::{OpenFault, open_dump};
 pub use words::{push_words, put_words, words_of};
 
+#[cfg(test)]
+mod hollow_dist_tests;
 #[cfg(test)]
 mod open_tests;
 #[cfg(test)]

@@ -27,8 +27,8 @@ pub enum OpenFault {
 
 /// Opens a file of so many bytes by its words, as a dump that answers from a bank of the same
 /// words. Where the bytes don't fill the last word, check 1 fails, whatever stands
-/// in the rest of it. Memory is taken only for directories of Elias-Fano lists, and
-/// after every check.
+/// in the rest of it. Memory is taken only for directories of Elias-Fano lists and
+/// for nodes of hollow tries, and after every check.
 ///
 /// # Errors
 /// The number of the first check that fails: 1 to 10 of the file's size and its header, where kinds

@@ -2,14 +2,16 @@
 
 ghost use Rattle.std.specs.Prelude.{◌≡◌, IfOk};
 ghost use Rattle.sx_dump.specs.Opening.{IsFunctionAt, IsListAt, IsOpened, IsSumsAt};
-ghost use Rattle.sx_dump.specs.Viewing.{IsHollowView, IsKeptView, IsLcp2View, IsLcpView, IsViewOf, ReadsFunction, ReadsNumbers, ReadsSums};
+ghost use Rattle.sx_dump.specs.Viewing.{IsHollowDistView, IsHollowView, IsKeptView, IsLcp2View, IsLcpView, IsViewOf, ReadsFunction, ReadsNumbers, ReadsSums};
 
+use crate::hollow_dist::HollowDistributor;
 use std::alloc::{AllocError, Global};
 use sx_ef::view::EliasFano;
 use sx_fields::bank::WordBank;
 use sx_fields::packed::Packed;
-use sx_hollow::HollowView;
+use sx_hollow::{HollowDistView, HollowView};
 use sx_lcp::{Lcp2View, LcpView};
+use sx_sections::counts::delimiter_count;
 use sx_sections::open::Opened;
 use sx_sections::place::Place;
 use sx_spec::Kind;
@@ -26,6 +28,8 @@ pub enum View<B: WordBank + Copy> {
     Lcp2(Lcp2View<B>),
     /// Those of the kind `hollow`: the sums of the two lists.
     Hollow(HollowView<B>),
+    /// Those of the kind `hollowdist`: the offsets, the sums of the two lists, and the turns.
+    HollowDist(HollowDistributor<B>),
 }
 
 /// The function of section `i` of the dump in a bank of words that were opened.
@@ -127,7 +131,7 @@ fn lcp2_view<B: WordBank + Copy>(bank: B, opened: &Opened) -> Lcp2View<B>
 /// The hollow trie of the dump of kind `hollow` in a bank of words that were opened.
 ///
 /// # Errors
-/// Only for want of memory: directories of its two lists are held.
+/// Only for want of memory: directories of its two lists are held, and its nodes with most leaves.
 fn hollow_view<B: WordBank + Copy>(
     alloc: Global,
     bank: B,
@@ -143,10 +147,33 @@ fn hollow_view<B: WordBank + Copy>(
     HollowView::over(alloc, left, skip, keys)
 }
 
+/// The distributor of the dump of kind `hollowdist` in a bank of words that were opened.
+///
+/// # Errors
+/// Only for want of memory: directories of its two lists are held, and its nodes with most leaves.
+fn hollow_dist_view<B: WordBank + Copy>(
+    alloc: Global,
+    bank: B,
+    opened: &Opened,
+) -> Result<HollowDistributor<B>, AllocError>
+    requires opened { IsOpened (B.words_of bank) opened.now.header opened.now.places.items }
+    requires kind { opened.now.header.plan.kind ≡ Kind.HollowDist }
+    ensures { IfOk result (IsHollowDistView (B.words_of bank)) }
+{
+    let offsets = function_at(bank, opened, 0);
+    let left = sums_at(alloc, bank, opened, 1)?;
+    let skip = sums_at(alloc, bank, opened, 2)?;
+    let turns = function_at(bank, opened, 3);
+    let delimiters = delimiter_count(&opened.header);
+    let blocks = HollowDistView::over(alloc, left, skip, turns, delimiters)?;
+    let keys = u64::from(opened.header.keys);
+    Ok(HollowDistributor::new(offsets, blocks, keys, opened.header.plan.log_bucket))
+}
+
 /// What answers for the dump in a bank of words that were opened.
 ///
 /// # Errors
-/// Only for want of memory: directories of Elias-Fano lists are held.
+/// Only for want of memory: directories of Elias-Fano lists are held, and nodes of hollow tries.
 pub fn view_of<B: WordBank + Copy>(
     alloc: Global,
     bank: B,
@@ -160,6 +187,7 @@ pub fn view_of<B: WordBank + Copy>(
         Kind::Lcp => Ok(View::Lcp(lcp_view(bank, opened))),
         Kind::Lcp2 => Ok(View::Lcp2(lcp2_view(bank, opened))),
         Kind::Hollow => Ok(View::Hollow(hollow_view(alloc, bank, opened)?)),
-        Kind::HollowDist | Kind::Zfast => unreachable!(),
+        Kind::HollowDist => Ok(View::HollowDist(hollow_dist_view(alloc, bank, opened)?)),
+        Kind::Zfast => unreachable!(),
     }
 }

@@ -13,6 +13,7 @@ pub use codes::{TwoStep, two_step};
 pub use lcp::LcpView;
 pub use lcp2::Lcp2View;
 pub use parts::{LcpParts, lcp_parts};
+pub use reply::place_in;
 
 #[cfg(test)]
 mod parts_tests;

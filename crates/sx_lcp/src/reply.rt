@@ -36,10 +36,10 @@ pub(crate) fn block_by_prefix<B: WordBank + Copy, L: Ledger>(
     Some(prefixes.answer(&sig, steps))
 }
 
-/// The place of an offset in a block of 2 to the power `log_bucket` keys, or none where it isn't
-/// below the number of keys.
+/// The place of an offset in a block of 2 to the power `log_bucket` keys, at most 12, or none where it
+/// isn't below the number of keys.
 #[inline(always)]
-pub(crate) fn place_in(block: u64, offset: u64, keys: u64, log_bucket: u32) -> Option<u64>
+pub fn place_in(block: u64, offset: u64, keys: u64, log_bucket: u32) -> Option<u64>
     requires { log_bucket ≤ 12 }
     ensures { result ≡ place keys (block_size log_bucket) block offset }
 {

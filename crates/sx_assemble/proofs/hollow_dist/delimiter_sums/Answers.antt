@@ -1,4 +1,4 @@
-use Rattle.std.proofs.Common.{◌≡◌, ◌∙◌, ◌≤◌, ℕ, List, IfOk, length, map, ap, subst, sym, arith}
+use Rattle.std.proofs.Common.{◌≡◌, ◌∙◌, ℕ, List, IfOk, length, map, ap, subst, sym, arith}
 use Rattle.sx_spec_strings.specs.Bits.{key_bits}
 use Rattle.sx_spec_kinds.specs.Blocks.{block_size, delimiters_of}
 use Rattle.sx_spec_kinds.specs.Hollow.{left_counts, skips}

@@ -12,3 +12,6 @@ reply_by_lcp2-requires g c = c.args.self.now.viewed.lcp2 _ (search rules)
 
 pub reply_by_hollow-requires : goal.reply_by_hollow-requires
 reply_by_hollow-requires g c = c.args.self.now.viewed.hollow _ (search rules)
+
+pub reply_by_hollow_dist-requires-clause-dist : goal.reply_by_hollow_dist-requires-clause-dist
+reply_by_hollow_dist-requires-clause-dist g c = c.args.self.now.viewed.hollow_dist _ (search rules)
