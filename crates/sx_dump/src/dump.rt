@@ -110,7 +110,8 @@ impl<B: WordBank + Copy> Dump<B> {
     #[inline(always)]
     fn string_reply<L: Ledger>(&self, key: &BitView<'_>, steps: &mut Steps<L>) -> Option<u64>
         requires { 8 ≤ length (bits_of key.now) }
-        ensures value { result ≡ string_reply (dump_in (B.words_of self.now.bank)) (bits_of key.now) }
+        ensures value { result
+            ≡ string_reply (dump_in (B.words_of self.now.bank)) (bits_of key.now) }
         ensures counted { steps.old ≤ steps.new }
         ensures cost { steps.new
             ≤ steps.old + string_reads (dump_in (B.words_of self.now.bank)) (bits_of key.now) }
@@ -133,7 +134,8 @@ impl<B: WordBank + Copy> Dump<B> {
         steps: &mut Steps<L>,
     ) -> Option<u64>
         requires { IsFuncView (B.words_of self.now.bank) values.now }
-        ensures value { result ≡ string_reply (dump_in (B.words_of self.now.bank)) (bits_of key.now) }
+        ensures value { result
+            ≡ string_reply (dump_in (B.words_of self.now.bank)) (bits_of key.now) }
         ensures counted { steps.old ≤ steps.new }
         ensures cost { steps.new
             ≤ steps.old + string_reads (dump_in (B.words_of self.now.bank)) (bits_of key.now) }
@@ -152,7 +154,8 @@ impl<B: WordBank + Copy> Dump<B> {
         steps: &mut Steps<L>,
     ) -> Option<u64>
         requires { IsLcpView (B.words_of self.now.bank) lcp.now }
-        ensures value { result ≡ string_reply (dump_in (B.words_of self.now.bank)) (bits_of key.now) }
+        ensures value { result
+            ≡ string_reply (dump_in (B.words_of self.now.bank)) (bits_of key.now) }
         ensures counted { steps.old ≤ steps.new }
         ensures cost { steps.new
             ≤ steps.old + string_reads (dump_in (B.words_of self.now.bank)) (bits_of key.now) }
@@ -172,7 +175,8 @@ impl<B: WordBank + Copy> Dump<B> {
         steps: &mut Steps<L>,
     ) -> Option<u64>
         requires { IsLcp2View (B.words_of self.now.bank) lcp2.now }
-        ensures value { result ≡ string_reply (dump_in (B.words_of self.now.bank)) (bits_of key.now) }
+        ensures value { result
+            ≡ string_reply (dump_in (B.words_of self.now.bank)) (bits_of key.now) }
         ensures counted { steps.old ≤ steps.new }
         ensures cost { steps.new
             ≤ steps.old + string_reads (dump_in (B.words_of self.now.bank)) (bits_of key.now) }
@@ -192,7 +196,8 @@ impl<B: WordBank + Copy> Dump<B> {
         steps: &mut Steps<L>,
     ) -> Option<u64>
         requires { IsHollowView (B.words_of self.now.bank) hollow.now }
-        ensures value { result ≡ string_reply (dump_in (B.words_of self.now.bank)) (bits_of key.now) }
+        ensures value { result
+            ≡ string_reply (dump_in (B.words_of self.now.bank)) (bits_of key.now) }
         ensures counted { steps.old ≤ steps.new }
         ensures cost { steps.new
             ≤ steps.old + string_reads (dump_in (B.words_of self.now.bank)) (bits_of key.now) }
@@ -214,7 +219,8 @@ impl<B: WordBank + Copy> Dump<B> {
     ) -> Option<u64>
         requires dist { IsHollowDistView (B.words_of self.now.bank) dist.now }
         requires whole { 8 ≤ length (bits_of key.now) }
-        ensures value { result ≡ string_reply (dump_in (B.words_of self.now.bank)) (bits_of key.now) }
+        ensures value { result
+            ≡ string_reply (dump_in (B.words_of self.now.bank)) (bits_of key.now) }
         ensures counted { steps.old ≤ steps.new }
         ensures cost { steps.new
             ≤ steps.old + string_reads (dump_in (B.words_of self.now.bank)) (bits_of key.now) }

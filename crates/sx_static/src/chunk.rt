@@ -11,6 +11,10 @@ use crate::{Method, Signature, Witness};
 use std::alloc::{AllocError, Global};
 use sx_sig::{has_twins, segment};
 
+/// The number of the try after which equal signatures are looked for. About every second chunk needs a second try, and
+/// few need a fifth.
+const LOOKS_AT: u32 = 3;
+
 /// What the tries at a chunk come to.
 #[derive(Drop)]
 pub(crate) enum Tried {
@@ -39,8 +43,8 @@ pub(crate) fn build_chunk(
     make_tries(alloc, &own_sigs, &own_values, method, numbers)
 }
 
-/// Makes one try after the other until one works. Where the first doesn't, and two signatures are equal, no more are made:
-/// no try peels equal edges.
+/// Makes one try after the other until one works. Where the first few don't, and two signatures are equal, no more are
+/// made: no try peels equal edges.
 fn make_tries(
     alloc: Global,
     sigs: &[Signature],
@@ -61,7 +65,7 @@ fn make_tries(
             Try::Works(cells) => return Ok(Tried::Works { number, cells }),
             Try::Fails(witness) => witnesses.push(of_pairs(alloc, &witness, numbers)?)?,
         }
-        if number == 0 && has_twins(alloc, sigs)? {
+        if number == LOOKS_AT && has_twins(alloc, sigs)? {
             return Ok(Tried::Fails(witnesses));
         }
     }

@@ -23,4 +23,3 @@ returns-clause-later c =
       farther = c.in-Some.ensures.farther;
       within = c.in-Some.ensures.short;
     }
-
