@@ -1,6 +1,7 @@
 -- The words of nodes that are kept.
-use Rattle.std.proofs.Common.{◌≡◌, ℕ, zero, suc, ◌+◌, ◌*◌, ◌/◌, ◌%◌, ◌^◌, ◌<◌, List, [], ◌∷◌, ◌++◌, length, refl, ap, ◌∙◌, arith}
+use Rattle.std.proofs.Common.{◌≡◌, ℕ, zero, suc, ◌+◌, ◌*◌, ◌/◌, ◌%◌, ◌^◌, ◌<◌, ◌≤◌, List, [], ◌∷◌, ◌++◌, length, refl, ap, ◌∙◌, arith}
 use Rattle.std.specs.Prelude.{⊤}
+use Rattle.std.proofs.lemmas.List.{length-append}
 use Rattle.std.specs.List.{slice_index}
 use Rattle.sx_hollow.specs.Tops.{AreKept}
 
@@ -48,3 +49,9 @@ module _ (left skip : List ℕ) where
 
   pub none_kept : AreKept left skip []
   none_kept i within = absurd (omega (arith, within))
+
+-- the words of one node more
+pub rows_longer : (words : List ℕ) (low high place : ℕ) → length words ≤ 2 * place → length (words ++ low ∷ high ∷ []) ≤ 2 * (place + 1)
+rows_longer words low high place few =
+    let more : length (words ++ low ∷ high ∷ []) ≡ length words + 2 = length-append words (low ∷ high ∷ []) in
+    omega (arith, more, few)

@@ -210,6 +210,7 @@ impl<B: WordBank + Copy> HollowDistView<B> {
     fn entry<L: Ledger>(&self, at: &Stand, rest: u32, steps: &mut Steps<L>) -> Entry
         requires more { 1 < at.now.leaves }
         requires node { at.now.node + at.now.leaves ≤ self.now.delimiters }
+        ensures node { result.node ≡ at.now.node }
         ensures left { result.left ≡ slice_index (gaps (sums_read self.now.left)) at.now.node }
         ensures skip { 0 < rest
             → result.skip ≡ slice_index (gaps (sums_read self.now.skip)) at.now.node }
@@ -240,6 +241,7 @@ impl<B: WordBank + Copy> HollowDistView<B> {
     /// and where it isn't, at most one.
     #[inline(always)]
     fn kept<L: Ledger>(&self, at: &Stand, steps: &mut Steps<L>) -> Option<Entry>
+        ensures node { IfSome result (λ e. e.node ≡ at.now.node) }
         ensures left { IfSome result (λ e. e.left
             ≡ slice_index (gaps (sums_read self.now.left)) at.now.node) }
         ensures skip { IfSome result (λ e. e.skip

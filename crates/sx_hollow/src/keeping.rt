@@ -1,6 +1,6 @@
 //! Which nodes of a hollow trie are kept: those with most leaves, from the root on.
 
-ghost use Rattle.std.specs.Prelude.{◌≡◌, ◌+◌, ◌<◌, ◌≤◌, ◌^◌, IfOk, length};
+ghost use Rattle.std.specs.Prelude.{◌≡◌, ◌+◌, ◌*◌, ◌/◌, ◌<◌, ◌≤◌, ◌^◌, IfOk, length};
 ghost use Rattle.sx_spec.specs.Reply.{gaps};
 ghost use Rattle.sx_steps.specs.Blanks.{IsBlankOf};
 ghost use Rattle.sx_hollow.specs.Tops.{AreKept};
@@ -52,7 +52,8 @@ fn wait_for_both(
     Ok(first % HALF)
 }
 
-/// The words of the first `most` nodes with so many leaves or more, row by row from the root on.
+/// The words of the first `most` nodes with so many leaves or more, row by row from the root on. At most 152 words are read
+/// for each.
 fn rows_from_root<B: WordBank + Copy, L: Ledger>(
     alloc: Global,
     left: &EliasFano<B>,
@@ -68,7 +69,9 @@ fn rows_from_root<B: WordBank + Copy, L: Ledger>(
     requires few { most < 2 ^ 32 }
     ensures kept { IfOk result
         (λ v. AreKept (gaps (sums_read left.now)) (gaps (sums_read skip.now)) v.items) }
+    ensures few { IfOk result (λ v. length v.items ≤ 2 * most) }
     ensures counted { steps.old ≤ steps.new }
+    ensures cost { steps.new ≤ steps.old + 152 * most }
 {
     let mut words = Vec::new(alloc);
     let mut queue = Vec::new(alloc);
@@ -106,8 +109,9 @@ fn top_counted<B: WordBank + Copy, L: Ledger>(
     requires few { nodes < 2 ^ 32 }
     requires left { nodes < length (sums_read left.now) }
     requires skip { nodes < length (sums_read skip.now) }
-    ensures { IfOk result
+    ensures kept { IfOk result
         (λ v. AreKept (gaps (sums_read left.now)) (gaps (sums_read skip.now)) v.items) }
+    ensures few { IfOk result (λ v. length v.items ≤ 2 * (nodes / 32)) }
 {
     let mut steps = Steps::<L>::new(blank);
     let most = (nodes / SHARE) as usize;
@@ -126,7 +130,7 @@ fn top_counted<B: WordBank + Copy, L: Ledger>(
     Ok(words)
 }
 
-/// The words of the nodes that are kept of so many nodes.
+/// The words of the nodes that are kept of so many nodes, two for each.
 ///
 /// # Errors
 /// Only for want of memory.
@@ -139,8 +143,9 @@ pub(crate) fn top_of<B: WordBank + Copy>(
     requires few { nodes < 2 ^ 32 }
     requires left { nodes < length (sums_read left.now) }
     requires skip { nodes < length (sums_read skip.now) }
-    ensures { IfOk result
+    ensures kept { IfOk result
         (λ v. AreKept (gaps (sums_read left.now)) (gaps (sums_read skip.now)) v.items) }
+    ensures few { IfOk result (λ v. length v.items ≤ 2 * (nodes / 32)) }
 {
     top_counted::<B, Brand>(alloc, left, skip, nodes, Blank::new(1))
 }

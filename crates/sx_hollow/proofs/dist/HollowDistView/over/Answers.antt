@@ -9,5 +9,5 @@ invariant_of-result g c = record {
   few = c.requires.few;
   lefts = c.requires.left;
   skips = c.requires.skip;
-  kept = subst (λ (words : List ℕ). AreKept (gaps (sums_read c.args.left)) (gaps (sums_read c.args.skip)) words) (sym c.new.ensures) c.in_ok-top.ensures;
+  kept = subst (λ (words : List ℕ). AreKept (gaps (sums_read c.args.left)) (gaps (sums_read c.args.skip)) words) (sym c.new.ensures) c.in_ok-top.ensures.kept;
 }
