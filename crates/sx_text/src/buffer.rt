@@ -3,6 +3,7 @@ ghost use Rattle.std.specs.Prelude.{◌≡◌, ◌+◌, ◌≤◌, ◌++◌, ℕ
 ghost use Rattle.sx_spec.specs.Causes.{HasCause};
 ghost use Rattle.sx_edge.specs.Parts.{AppendsPrefix};
 ghost use Rattle.sx_spec.specs.Reply.{reply_number, reply_text};
+ghost use Rattle.std.specs.Fmt.{signed_decimal};
 ghost use Rattle.std.specs.Io.KnownBytes.{Appends};
 
 use itoa::Buffer;
@@ -86,6 +87,7 @@ impl TextBuffer {
     #[inline(always)]
     pub fn push_reply(&mut self, reply: i128)
         requires room { length self.old + 41 ≤ 65536 }
+        ensures text { self.new ≡ self.old ++ signed_decimal reply }
         ensures value { (r : Option ℕ)
             → reply ≡ reply_number r → self.new ≡ self.old ++ reply_text r }
         ensures short { length self.new ≤ length self.old + 41 }
@@ -99,6 +101,7 @@ impl TextBuffer {
     // A reply that isn't a number of 64 bits.
     fn push_wide(&mut self, reply: i128)
         requires { length self.old + 41 ≤ 65536 }
+        ensures text { self.new ≡ self.old ++ signed_decimal reply }
         ensures value { (r : Option ℕ)
             → reply ≡ reply_number r → self.new ≡ self.old ++ reply_text r }
         ensures short { length self.new ≤ length self.old + 41 }
@@ -107,9 +110,10 @@ impl TextBuffer {
         self.push(buffer.format(reply).as_bytes());
     }
 
-    /// Writes the text and begins anew. After a failure a prefix of it was written.
+    /// Writes the text and begins anew. After a failure a prefix of it was written, and all of it is still held.
     pub fn write_to<K: Sink>(&mut self, sink: &mut K) -> Result<(), Failed>
         ensures empty { OnOk result (self.new ≡ []) }
+        ensures held { OnErr result (self.new ≡ self.old) }
         ensures ok { OnOk result (Appends (K.written sink.old) (K.written sink.new) self.old) }
         ensures failed { OnErr result
             (AppendsPrefix (K.written sink.old) (K.written sink.new) self.old) }
