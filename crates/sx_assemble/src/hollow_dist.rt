@@ -151,8 +151,8 @@ fn key_offsets(alloc: Global, keys: &KeyList, plan: &Plan, seed: u64) -> Result<
     offsets_function(alloc, &sigs, plan)
 }
 
-/// The function of part 1, which gives each fragment at a node of the trie its turn. Beside the pairs
-/// and their signatures turns have one byte each, and they are widened when the pairs are let go.
+/// The function of part 1, which gives each fragment at a node of the trie its turn. Turns have one
+/// byte each beside the pairs and their signatures, and are widened when the pairs are let go.
 fn turns_function(alloc: Global, keys: &KeyList, plan: &Plan, seed: u64) -> Result<FuncBuf, Stop>
     requires bucket { plan.now.log_bucket ≤ 12 }
     requires bits { plan.now.sig_bits ≤ 192 }
