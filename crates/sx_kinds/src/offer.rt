@@ -12,20 +12,22 @@ use crate::options::same_option;
 use sx_spec::{Kind, OptionName};
 
 /// The kinds that are built and opened.
-const KINDS: [Kind; 5] = [
+const KINDS: [Kind; 6] = [
     Kind::Func,
     Kind::Lcp,
     Kind::Lcp2,
     Kind::Hollow,
     Kind::HollowDist,
+    Kind::Zfast,
 ];
 
 /// The options of `build`.
-const OPTIONS: [OptionName; 6] = [
+const OPTIONS: [OptionName; 7] = [
     OptionName::Seeds,
     OptionName::Method,
     OptionName::LogBucket,
     OptionName::SigBits,
+    OptionName::HandleBits,
     OptionName::Signed,
     OptionName::Values,
 ];

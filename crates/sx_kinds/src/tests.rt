@@ -23,8 +23,8 @@ fn what_kinds_use(rt: HostRuntime) {
 
 #[test]
 fn what_is_offered(rt: HostRuntime) {
-    assert!(rt; offers_kind(Kind::Lcp2) && !offers_kind(Kind::Zfast));
-    assert!(rt; offers_option(OptionName::Signed) && !offers_option(OptionName::HandleBits));
+    assert!(rt; offers_kind(Kind::Lcp2) && offers_kind(Kind::Zfast));
+    assert!(rt; offers_option(OptionName::Signed) && offers_option(OptionName::HandleBits));
     for kind in kinds() {
         assert!(rt; offers_kind(*kind));
     }

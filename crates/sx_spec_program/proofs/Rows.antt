@@ -11,9 +11,9 @@ word_examples = record {
   not_offered = refl;
   too_few = refl;
   twice = refl;
-  option_not_offered = refl;
+  no_handles = refl;
   no_kind = refl;
-  kind_not_offered = refl;
+  wide_handles = refl;
   bad_value = refl;
   large_blocks = refl;
   no_blocks = refl;
@@ -29,6 +29,8 @@ word_examples = record {
   plain_blocks = refl;
   plain_hollow = refl;
   plain_hollow_dist = refl;
+  plain_zfast = refl;
+  no_bits = refl;
   signed = refl;
   query_words = refl;
   dump_words = refl;
@@ -36,4 +38,4 @@ word_examples = record {
 
 pub open_examples : OpenExamples
 unfolding numbers.binary_digits first.least_from numbers.lowest_digits
-open_examples = record { hollow = refl; kind = refl; signed = refl; wide = refl; kept = refl }
+open_examples = record { hollow = refl; zfast = refl; kind = refl; signed = refl; wide = refl; kept = refl }

@@ -1,37 +1,38 @@
 -- What this program offers, and the program that offers so much.
 use Rattle.std.specs.Prelude.{◌≡◌, ◌≢◌, ◌≤◌, ℕ, true, false, List, [], ◌∷◌, Option, None, option_map, codes}
 use Rattle.std.specs.Result.{result_err}
-use Rattle.sx_spec_kinds.specs.declared.Kind.TheVariants.{Func, Lcp, Lcp2, Hollow, HollowDist}
+use Rattle.sx_spec_kinds.specs.declared.Kind.TheVariants.{Func, Lcp, Lcp2, Hollow, HollowDist, Zfast}
 use Rattle.sx_spec.specs.declared.Method.TheVariants.{Mwhc}
-use Rattle.sx_spec.specs.declared.OptionName.TheVariants.{Seeds, Method as MethodName, LogBucket, SigBits, Signed, Values}
+use Rattle.sx_spec.specs.declared.OptionName.TheVariants.{Seeds, Method as MethodName, LogBucket, SigBits, HandleBits, Signed, Values}
 use Rattle.sx_spec.specs.declared.Plan.{Plan}
 use Rattle.sx_spec.specs.Command.{Text, BuildTask}
 use Rattle.sx_spec.specs.Keys.{standard_limits}
-use Rattle.sx_spec.specs.Kinds.{uses_buckets, uses_method}
+use Rattle.sx_spec.specs.Kinds.{uses_buckets, uses_handles, uses_method}
 use Rattle.sx_spec.specs.Messages.{key_text, seeds_text, check_text, fault_text}
 use Rattle.sx_spec.specs.Outcomes.{Profile}
 use Rattle.sx_spec.specs.Parts.{least_width}
 use Rattle.sx_spec_program.specs.Offer.{Offer, offered, offers_kind, opened_by}
 
--- what sux offers: static functions with values, the kinds lcp, lcp2 and hollowdist in blocks, and hollow tries; functions are built
--- by either method, and each kind may be signed
+-- what sux offers: static functions with values, the kinds lcp, lcp2, hollowdist and zfast in blocks, and hollow tries; functions are
+-- built by either method, and each kind may be signed
 abbrev pub sux_offer : Offer
 sux_offer = record {
   commands = codes "build" ∷ codes "query" ∷ codes "open" ∷ codes "dump" ∷ [];
-  kinds = Func ∷ Lcp ∷ Lcp2 ∷ Hollow ∷ HollowDist ∷ [];
-  options = Seeds ∷ MethodName ∷ LogBucket ∷ SigBits ∷ Signed ∷ Values ∷ [];
+  kinds = Func ∷ Lcp ∷ Lcp2 ∷ Hollow ∷ HollowDist ∷ Zfast ∷ [];
+  options = Seeds ∷ MethodName ∷ LogBucket ∷ SigBits ∷ HandleBits ∷ Signed ∷ Values ∷ [];
   signed = 64;
 }
 
 -- the plan of a dump that this program builds: what it offers, in the ranges of the options, and 0 where an option doesn't go with
--- the kind. No kind that is offered keeps handles
+-- the kind
 pub record IsOfferedPlan (plan : Plan) : Type 0 where
   pub kind : offers_kind sux_offer plan.kind ≡ true
   pub signed : plan.signed ≤ sux_offer.signed
   pub no_method : uses_method plan.kind ≡ false → plan.method ≡ Mwhc
   pub buckets : plan.log_bucket ≤ 12
   pub no_buckets : uses_buckets plan.kind ≡ false → plan.log_bucket ≡ 0
-  pub handles : plan.handle_bits ≡ 0
+  pub handles : plan.handle_bits ≤ 64
+  pub no_handles : uses_handles plan.kind ≡ false → plan.handle_bits ≡ 0
   pub bits : plan.sig_bits ≤ 192
 
 -- what a build of this program asks for: a plan that is offered, and values of a file only without a signed width

@@ -25,28 +25,20 @@ use Rattle.sx_words.proofs.Verdicts.{rule_is}
 -- the kind of a word that is offered is offered
 kind_fits : (word : Text) (kind : Kind) → offers_kind_word sux_offer word ≡ true → kind_named word ≡ Some kind → offers_kind sux_offer kind ≡ true
 kind_fits word kind offers named =
-    by_tests (bytes_eq (kind_word Func) word) (bytes_eq (kind_word Lcp) word) (bytes_eq (kind_word Lcp2) word) (bytes_eq (kind_word Hollow) word) (bytes_eq (kind_word HollowDist) word) (λ k. bytes_eq (kind_word k) word) offers named
+    by_tests (bytes_eq (kind_word Func) word) (bytes_eq (kind_word Lcp) word) (bytes_eq (kind_word Lcp2) word) (bytes_eq (kind_word Hollow) word) (bytes_eq (kind_word HollowDist) word) (bytes_eq (kind_word Zfast) word) (λ k. bytes_eq (kind_word k) word) offers named
   where
     same : {k : Kind} → kind ≡ k → offers_kind sux_offer kind ≡ offers_kind sux_offer k
     same is = ap (offers_kind sux_offer) is
 
-    by_tests : (a b d h g : Bool) (p : Kind → Bool) → (a || (b || (d || (h || (g || false))))) ≡ true
-        → (if a then Some Func else if b then Some Lcp else if d then Some Lcp2 else if h then Some Hollow else if g then Some HollowDist else find p (drop 5 kinds)) ≡ Some kind → offers_kind sux_offer kind ≡ true
-    by_tests true b d h g p o n = let is : Func ≡ kind = cc in same (sym is)
-    by_tests false true d h g p o n = let is : Lcp ≡ kind = cc in same (sym is)
-    by_tests false false true h g p o n = let is : Lcp2 ≡ kind = cc in same (sym is)
-    by_tests false false false true g p o n = let is : Hollow ≡ kind = cc in same (sym is)
-    by_tests false false false false true p o n = let is : HollowDist ≡ kind = cc in same (sym is)
-    by_tests false false false false false p o n = absurd cc
-
--- no kind that is offered keeps handles
-no_handles : (kind : Kind) → offers_kind sux_offer kind ≡ true → uses_handles kind ≡ false
-no_handles Func offers = refl
-no_handles Lcp offers = refl
-no_handles Lcp2 offers = refl
-no_handles Hollow offers = refl
-no_handles HollowDist offers = refl
-no_handles Zfast offers = absurd cc
+    by_tests : (a b d h g z : Bool) (p : Kind → Bool) → (a || (b || (d || (h || (g || (z || false)))))) ≡ true
+        → (if a then Some Func else if b then Some Lcp else if d then Some Lcp2 else if h then Some Hollow else if g then Some HollowDist else if z then Some Zfast else find p (drop 6 kinds)) ≡ Some kind → offers_kind sux_offer kind ≡ true
+    by_tests true b d h g z p o n = let is : Func ≡ kind = cc in same (sym is)
+    by_tests false true d h g z p o n = let is : Lcp ≡ kind = cc in same (sym is)
+    by_tests false false true h g z p o n = let is : Lcp2 ≡ kind = cc in same (sym is)
+    by_tests false false false true g z p o n = let is : Hollow ≡ kind = cc in same (sym is)
+    by_tests false false false false true z p o n = let is : HollowDist ≡ kind = cc in same (sym is)
+    by_tests false false false false false true p o n = let is : Zfast ≡ kind = cc in same (sym is)
+    by_tests false false false false false false p o n = absurd cc
 
 -- a kind that uses no method has none, since none may be given
 no_method : (goes : Bool) (o : Option Text) → (is_some o && not goes) ≡ false → goes ≡ false → unwrap_or (option_and_then method_named o) Mwhc ≡ Mwhc
@@ -134,7 +126,8 @@ options_fit s kind kind_offered free =
         no_method = no_method (uses_method kind) (setting s MethodName) fit.1.0;
         buckets = number_fits (uses_buckets kind) (setting s LogBucket) 0 12 5 12 (lit≤ tt) (lit≤ tt) good.1.1.0;
         no_buckets = λ none. ap (λ (goes : Bool). if goes then unwrap_or (option_and_then (number_below (2 ^ 64)) (setting s LogBucket)) 5 else 0) none;
-        handles = ap (λ (goes : Bool). if goes then unwrap_or (option_and_then (number_below (2 ^ 64)) (setting s HandleBits)) 32 else 0) (no_handles kind kind_offered);
+        handles = number_fits (uses_handles kind) (setting s HandleBits) 0 64 32 64 (lit≤ tt) (lit≤ tt) good.1.1.1.1.0;
+        no_handles = λ none. ap (λ (goes : Bool). if goes then unwrap_or (option_and_then (number_below (2 ^ 64)) (setting s HandleBits)) 32 else 0) none;
         bits = number_fits true (setting s SigBits) 0 192 192 192 (lit≤ tt) (lit≤ tt) good.1.1.1.0;
       };
       values = λ width. no_values (setting s Signed) (setting s Values) alone width;

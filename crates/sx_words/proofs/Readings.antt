@@ -55,7 +55,7 @@ no_command word words none =
 -- ---- the words of `build`
 
 kind_is : (a b d e g h : Bool) (s : Split)
-    → (if not (a || (b || (d || (e || (g || false))))) then usage UnknownKind else elim (if a then Some Func else if b then Some Lcp else if d then Some Lcp2 else if e then Some Hollow else if g then Some HollowDist else if h then Some Zfast else None) [ None ↦ usage UnknownKind | Some kind ↦ kind_task s kind ])
+    → (if not (a || (b || (d || (e || (g || (h || false)))))) then usage UnknownKind else elim (if a then Some Func else if b then Some Lcp else if d then Some Lcp2 else if e then Some Hollow else if g then Some HollowDist else if h then Some Zfast else None) [ None ↦ usage UnknownKind | Some kind ↦ kind_task s kind ])
     ≡ offered_task s (option_and_then if_offered (if a then Some Func else if b then Some Lcp else if d then Some Lcp2 else if e then Some Hollow else if g then Some HollowDist else if h then Some Zfast else None))
 kind_is true b d e g h s = refl
 kind_is false true d e g h s = refl

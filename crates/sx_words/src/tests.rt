@@ -47,12 +47,21 @@ fn refused_words(rt: HostRuntime) -> Result<(), Fail> {
         ("build func D --seeds=", Some(Rule::BadWords)),
         ("build func D --seeds --values", Some(Rule::BadWords)),
         ("build func D --signed 8 --signed 8", Some(Rule::BadWords)),
-        ("build lcp D --handle-bits 5", Some(Rule::BadWords)),
+        (
+            "build lcp D --handle-bits 5",
+            Some(Rule::DoesNotGo {
+                name: OptionName::HandleBits,
+                kind: Kind::Lcp,
+            }),
+        ),
         ("build func D --frob 5", Some(Rule::BadWords)),
         ("build tree D", Some(Rule::UnknownKind)),
         ("build tree D --signed 8", Some(Rule::UnknownKind)),
-        ("build zfast D", Some(Rule::UnknownKind)),
-        ("build zfast D --sig-bits 193", Some(Rule::UnknownKind)),
+        ("build zfast D", None),
+        (
+            "build zfast D --sig-bits 193",
+            Some(Rule::BadValue(OptionName::SigBits)),
+        ),
         (
             "build lcp D --log-bucket 13",
             Some(Rule::BadValue(OptionName::LogBucket)),
@@ -101,6 +110,11 @@ fn refused_words(rt: HostRuntime) -> Result<(), Fail> {
             "build func D --method gov4 --sig-bits 193",
             Some(Rule::BadValue(OptionName::Method)),
         ),
+        (
+            "build zfast D --handle-bits 65",
+            Some(Rule::BadValue(OptionName::HandleBits)),
+        ),
+        ("build zfast D --handle-bits 64 --log-bucket 12", None),
         ("build func D --signed 0", bad_width),
         ("build hollow D --signed 65 --method mwhc", bad_width),
         (
