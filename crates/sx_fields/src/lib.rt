@@ -2,6 +2,7 @@
 #![tactic(auto)]
 
 pub mod bank;
+pub mod digits;
 pub mod fields;
 pub mod packed;
 pub mod packed_buf;

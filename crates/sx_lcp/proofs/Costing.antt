@@ -160,25 +160,3 @@ best_else f bits best least next found some is cost new more kept =
     let on : suc n ≡ bits + 1 - 1 = omega arith in
     let le : f best ≤ f (suc n) = let e = ap f back in omega arith in
     kept ∙ least_kept f n best is le ∙ ap (least_at f) on
-
--- ---- digits
-
--- the binary digits of a 32-bit number are those after its leading zeros
-pub digits_are : (n : ℕ) → n < 2 ^ 32 → 32 - count_leading_zeros 32 n ≡ binary_digits n
-digits_are n small =
-    let (m, all, below, wide) = leading_length 32 n small in
-    let le = digits_least n m below in
-    let ge = no_less n m wide in
-    omega arith
-  where
-    no_less : (n m : ℕ) → 2 ^ m ≤ 2 * n + 1 → m ≤ binary_digits n
-    no_less n zero wide = omega arith
-    no_less n (suc m) wide =
-        elim (cases_lt (binary_digits n) (suc m)) [
-          | inl lt ↦
-              let below = digits_hold n in
-              let smaller : 2 ^ binary_digits n ≤ 2 ^ m = pow_mono (omega arith) in
-              let twice = pow-succ' 2 m in
-              absurd (omega arith)
-          | inr ge ↦ ge
-        ]

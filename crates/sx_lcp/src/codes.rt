@@ -12,6 +12,7 @@ use coding::{codes_by, escaped_by, last_code};
 use costs::{best_bits, table_by};
 use ranking::ranked_values;
 use std::alloc::{AllocError, Global};
+use sx_fields::digits::binary_digits;
 
 /// The two-step codes of a list of values.
 #[derive(Drop)]
@@ -59,5 +60,5 @@ fn width(values: &[u32]) -> u32
     for value in values {
         greatest = greatest.max(*value);
     }
-    32 - greatest.leading_zeros()
+    binary_digits(u64::from(greatest))
 }

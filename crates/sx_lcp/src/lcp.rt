@@ -7,7 +7,7 @@ ghost use Rattle.sx_spec_kinds.specs.Blocks.{block_size};
 ghost use Rattle.sx_spec_kinds.specs.Lcp.{lcp_reply};
 ghost use Rattle.sx_spec.specs.Signature.{signature};
 ghost use Rattle.sx_bits.specs.Views.{bits_of};
-ghost use Rattle.sx_lcp.specs.Views.{answers_by};
+ghost use Rattle.sx_static.specs.Reading.{answers_by};
 
 use crate::reply::{block_by_prefix, place_in};
 use std::alloc::AllocError;

@@ -9,7 +9,8 @@ ghost use Rattle.sx_spec_kinds.specs.Lcp.{lcp2_reply};
 ghost use Rattle.sx_bits.specs.Views.{bits_of};
 ghost use Rattle.sx_spec.specs.Signature.{signature};
 ghost use Rattle.sx_spec.specs.StaticFunction.{value_of};
-ghost use Rattle.sx_lcp.specs.Views.{answers_by, function_read, length_by};
+ghost use Rattle.sx_lcp.specs.Views.{length_by};
+ghost use Rattle.sx_static.specs.Reading.{answers_by, function_read};
 
 use crate::reply::{block_by_prefix, place_in};
 use std::alloc::AllocError;

@@ -3,7 +3,8 @@
 ghost use Rattle.std.specs.Prelude.{◌≡◌, ◌+◌, ◌≤◌, ◌<◌, ◌^◌};
 ghost use Rattle.sx_spec_kinds.specs.Blocks.{block_size, place};
 ghost use Rattle.sx_bits.specs.Views.{bits_of};
-ghost use Rattle.sx_lcp.specs.Views.{answers_by, block_at};
+ghost use Rattle.sx_lcp.specs.Views.{block_at};
+ghost use Rattle.sx_static.specs.Reading.{answers_by};
 
 use std::sync::ledger::Ledger;
 use sx_bits::BitView;

@@ -5,3 +5,4 @@ pub mod Tries
 pub mod Chunks
 pub mod Viewing
 pub mod Both
+pub mod Reading

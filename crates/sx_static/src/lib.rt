@@ -15,7 +15,7 @@ mod twins;
 mod view;
 
 pub use both::{Both, build_both};
-pub use section::{TABLE_CHECK, function_check};
+pub use section::{TABLE_CHECK, function_check, start_of, try_of};
 use std::alloc::{AllocError, Global};
 use sx_fields::packed_buf::PackedBuf;
 use sx_sig::{chunk_bits, chunks_of};

@@ -17,11 +17,11 @@ use sx_sig::chunk_bits;
 pub const TABLE_CHECK: u8 = 14;
 
 /// How many bits of a word of a chunk table name a cell. The others name a try.
-const START_BITS: u32 = 58;
+pub(crate) const START_BITS: u32 = 58;
 
 /// The first cell that a word of a chunk table names.
 #[inline(always)]
-pub(crate) fn start_of(word: u64) -> u64
+pub fn start_of(word: u64) -> u64
     ensures { result ≡ table_start word }
 {
     word % (1 << START_BITS)
@@ -29,7 +29,7 @@ pub(crate) fn start_of(word: u64) -> u64
 
 /// The try that a word of a chunk table names, at most 63.
 #[inline(always)]
-pub(crate) fn try_of(word: u64) -> u32
+pub fn try_of(word: u64) -> u32
     ensures value { result ≡ table_try word }
     ensures few { result ≤ 63 }
 {

@@ -10,6 +10,7 @@ ghost use Rattle.sx_static.specs.Answer.{IsAnswer, entries_of};
 ghost use Rattle.sx_static.specs.Chunks.{ListsHold, cells_needed};
 
 use crate::chunk::{Tried, build_chunk};
+use crate::section::START_BITS;
 use crate::twins::why_none;
 use crate::{Built, FuncBuf, Method, Signature};
 use std::alloc::{AllocError, Global};
@@ -48,7 +49,7 @@ pub(crate) fn build_chunks(
                 number,
                 cells: found,
             } => {
-                table.push(start as u64 + (u64::from(number) << 58))?;
+                table.push(start as u64 + (u64::from(number) << START_BITS))?;
                 put_cells(&mut cells, start, &found);
                 start += found.len();
             }

@@ -1,6 +1,6 @@
 use Rattle.std.proofs.Common.{arith}
 use Rattle.sx_bits.specs.Views.{bits_of}
-use Rattle.sx_lcp.specs.Views.{function_read}
+use Rattle.sx_static.specs.Reading.{function_read}
 use Rattle.sx_lcp.proofs.Replies.{block_is}
 use Rattle.sx_lcp.proofs.reply.block_by_prefix.Goals as goal
 

@@ -1,7 +1,7 @@
 use Rattle.std.proofs.Common.{◌%◌, ℕ, Some, None, ap, refl}
 use Rattle.sx_bits.specs.Views.{bits_of}
 use Rattle.sx_spec_kinds.specs.Blocks.{block_size}
-use Rattle.sx_lcp.specs.Views.{function_read}
+use Rattle.sx_static.specs.Reading.{function_read}
 use Rattle.sx_lcp.proofs.Replies.{lcp_is, size_is}
 use Rattle.sx_lcp.proofs.lcp.LcpView.answer.Goals as goal
 

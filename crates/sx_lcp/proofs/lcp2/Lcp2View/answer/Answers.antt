@@ -2,7 +2,7 @@ use Rattle.std.proofs.Common.{ℕ, List, Some, None, drop}
 use Rattle.sx_bits.specs.Views.{bits_of}
 use Rattle.sx_spec.specs.Fields.{fields}
 use Rattle.sx_spec_kinds.specs.Blocks.{block_size}
-use Rattle.sx_lcp.specs.Views.{function_read}
+use Rattle.sx_static.specs.Reading.{function_read}
 use Rattle.sx_lcp.proofs.Replies.{lcp2_is}
 use Rattle.sx_lcp.proofs.lcp2.Lcp2View.answer.Goals as goal
 
