@@ -4,8 +4,3 @@ pub mod Gaps
 pub mod Rest
 pub mod NodeNumbers
 pub mod Tops
-pub mod KeyRuns
-pub mod NodeFragments
-pub mod TurnOrders
-pub mod TrieNames
-pub mod NodeLists

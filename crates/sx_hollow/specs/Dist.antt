@@ -1,21 +1,10 @@
--- Where a walk that asks a function is after a step, and what the function that is read answers a string.
+-- Where a walk that asks a function is after a step.
 use Rattle.std.specs.Prelude.{⊤, ℕ, ◌+◌, ◌<◌, ◌≤◌, ◌==◌, if◌then◌else◌}
-use Rattle.sx_fields.specs.declared.bank.WordBank.{Ghosts}
-use Rattle.sx_spec_strings.specs.Bits.{Bits}
-use Rattle.sx_spec.specs.Signature.{signature}
-use Rattle.sx_spec.specs.StaticFunction.{value_of}
 use Rattle.sx_spec_kinds.specs.Hollow.{Walk as SpecWalk, goes, ends, lost}
-use Rattle.sx_static.specs.declared.view.FuncView.{FuncView}
-use Rattle.sx_static.specs.Viewing.{viewed}
 use Rattle.sx_hollow.specs.Walks.{stand_of}
 use Rattle.sx_hollow.specs.declared.walk.Stand.{Stand}
 use Rattle.sx_hollow.specs.declared.turning.Walk.{Walk}
 use Rattle.sx_hollow.specs.declared.turning.Walk.TheVariants.{Goes, Ends, Lost}
-
--- what the function answers a string under a seed, with so many bits of its signature
-abbrev pub turns_by : {B : Type 0} {bank_of : Ghosts B} (v : FuncView B bank_of) (seed sig_bits : ℕ) → Bits → ℕ
-turns_by {bank_of = bank_of} v seed sig_bits y =
-    value_of (viewed (bank_of.words_of v.bank) v.first v.width v.pairs) (signature seed sig_bits y)
 
 -- a walk as the definitions have it
 abbrev pub walk_as : Walk → SpecWalk

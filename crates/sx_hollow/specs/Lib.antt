@@ -2,4 +2,3 @@ pub mod Dist
 pub mod Tops
 pub mod Views
 pub mod Walks
-pub mod Pairs

@@ -8,7 +8,8 @@ ghost use Rattle.sx_spec.specs.Reply.{gaps};
 ghost use Rattle.sx_spec_kinds.specs.Hollow.{end_of, goes};
 ghost use Rattle.sx_spec_kinds.specs.HollowDistributor.{ask, hollow_block};
 ghost use Rattle.sx_bits.specs.Views.{bits_of};
-ghost use Rattle.sx_hollow.specs.Dist.{IfGoes, IsLater, reserve, turns_by, walk_as};
+ghost use Rattle.sx_hollow.specs.Dist.{IfGoes, IsLater, reserve, walk_as};
+ghost use Rattle.sx_static.specs.Reading.{answers_by};
 ghost use Rattle.sx_hollow.specs.Tops.{AreKept};
 ghost use Rattle.sx_hollow.specs.Views.{sums_read};
 ghost use Rattle.sx_hollow.specs.Walks.{stand_of};
@@ -98,7 +99,7 @@ impl<B: WordBank + Copy> HollowDistView<B> {
         requires whole { 8 ≤ length (bits_of view.now) }
         requires few { sig_bits ≤ 192 }
         ensures value { result ≡ hollow_block (gaps (sums_read self.now.left))
-            (gaps (sums_read self.now.skip)) (turns_by self.now.turns seed sig_bits)
+            (gaps (sums_read self.now.skip)) (answers_by self.now.turns seed sig_bits)
             self.now.delimiters (bits_of view.now) }
         ensures counted { steps.old ≤ steps.new }
         ensures cost { steps.new ≤ steps.old + (170 * length (bits_of view.now) + 8) }
@@ -140,7 +141,7 @@ impl<B: WordBank + Copy> HollowDistView<B> {
         requires within { at.now.pos ≤ length (bits_of view.now) }
         ensures value { walk_as result ≡ ask (gaps (sums_read self.now.left))
             (gaps (sums_read self.now.skip))
-            (turns_by self.now.turns signing.seed signing.sig_bits) self.now.delimiters
+            (answers_by self.now.turns signing.seed signing.sig_bits) self.now.delimiters
             (bits_of view.now) (goes (stand_of at.now)) }
         ensures later { IfGoes result (IsLater (length (bits_of view.now)) at.now) }
         ensures counted { steps.old ≤ steps.new }
@@ -175,7 +176,7 @@ impl<B: WordBank + Copy> HollowDistView<B> {
         requires within { at.now.pos ≤ length (bits_of view.now) }
         ensures value { result ≡ end_of (ask (gaps (sums_read self.now.left))
             (gaps (sums_read self.now.skip))
-            (turns_by self.now.turns signing.seed signing.sig_bits) self.now.delimiters
+            (answers_by self.now.turns signing.seed signing.sig_bits) self.now.delimiters
             (bits_of view.now) (goes (stand_of at.now))) }
         ensures counted { steps.old ≤ steps.new }
         ensures cost { steps.new ≤ steps.old + 8 }
@@ -195,7 +196,7 @@ impl<B: WordBank + Copy> HollowDistView<B> {
         signing: Signing,
         steps: &mut Steps<L>,
     ) -> u64
-        ensures value { result ≡ turns_by self.now.turns signing.seed signing.sig_bits
+        ensures value { result ≡ answers_by self.now.turns signing.seed signing.sig_bits
             (tagged (Some tag) (bits_of fragment.now)) }
         ensures counted { steps.old ≤ steps.new }
         ensures cost { steps.new ≤ steps.old + 8 }

@@ -187,6 +187,24 @@ fn one_turn_for_all(rt: HostRuntime) -> Result<(), Fail> {
 }
 
 #[test]
+fn many_equal_numbers(rt: HostRuntime) -> Result<(), Fail> {
+    // the left child of the root has no leaf, so its turn doesn't count
+    let mut equal = [u64::MAX; 34];
+    equal[0] = 2048;
+    equal[1] = 1;
+    for turn in 0..4 {
+        let turns = always(turn);
+        let sections = Sections {
+            left: &equal,
+            skip: &equal,
+            turns: &turns,
+        };
+        assert_eq!(rt; block(rt.alloc(), sections, 2048, b"a")?, None);
+    }
+    Ok(())
+}
+
+#[test]
 fn one_delimiter_or_none(rt: HostRuntime) -> Result<(), Fail> {
     let sums = section(rt.alloc(), &[0])?;
     let rows = [(0, None), (1, Some(0)), (2, Some(1)), (3, None)];

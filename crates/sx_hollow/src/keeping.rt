@@ -25,9 +25,19 @@ struct Waiting {
     leaves: u64,
 }
 
-/// Lets a node wait if it has so many leaves or more, and tells whether it has.
-fn wait(queue: &mut Vec<Waiting>, node: u64, leaves: u64, many: u64) -> Result<bool, AllocError> {
-    if leaves < many {
+/// Lets a node wait if it has so many leaves or more and fewer than `most` have waited so far, and
+/// tells whether it does.
+fn wait(
+    queue: &mut Vec<Waiting>,
+    node: u64,
+    leaves: u64,
+    many: u64,
+    most: usize,
+) -> Result<bool, AllocError>
+    requires few { length queue.old.items ≤ most }
+    ensures few { length queue.new.items ≤ most }
+{
+    if leaves < many || queue.len() >= most {
         return Ok(false);
     }
     queue.push(Waiting { node, leaves })?;
@@ -41,13 +51,16 @@ fn wait_for_both(
     at: Waiting,
     below: u64,
     many: u64,
+    most: usize,
 ) -> Result<u64, AllocError>
-    ensures { IfOk result (λ place. place < 2 ^ 32) }
+    requires few { length queue.old.items ≤ most }
+    ensures place { IfOk result (λ place. place < 2 ^ 32) }
+    ensures few { length queue.new.items ≤ most }
 {
     let place = queue.len() as u64;
-    let left = wait(queue, at.node.saturating_add(1), below, many)?;
+    let left = wait(queue, at.node.saturating_add(1), below, many, most)?;
     let rest = at.leaves.saturating_sub(below);
-    wait(queue, at.node.saturating_add(below), rest, many)?;
+    wait(queue, at.node.saturating_add(below), rest, many, most)?;
     let first = if left { place } else { place.saturating_sub(1) };
     Ok(first % HALF)
 }
@@ -75,7 +88,7 @@ fn rows_from_root<B: WordBank + Copy, L: Ledger>(
 {
     let mut words = Vec::new(alloc);
     let mut queue = Vec::new(alloc);
-    wait(&mut queue, 0, nodes.saturating_add(1), many)?;
+    wait(&mut queue, 0, nodes.saturating_add(1), many, most)?;
     for place in 0..most {
         if place >= queue.len() {
             break;
@@ -87,11 +100,11 @@ fn rows_from_root<B: WordBank + Copy, L: Ledger>(
         }
         let below = gap(left, at.node as usize, steps);
         let skipped = gap(skip, at.node as usize, steps);
-        // lists of no trie may hold more than half a word does
-        if below >= HALF || skipped >= HALF {
+        // lists of no trie may have no leaf on a side, or hold more than half a word does
+        if below == 0 || at.leaves <= below || below >= HALF || skipped >= HALF {
             break;
         }
-        let children = wait_for_both(&mut queue, at, below, many)?;
+        let children = wait_for_both(&mut queue, at, below, many, most)?;
         words.extend_from_slice(&[at.node + HALF * below, skipped + HALF * children])?;
     }
     Ok(words)
@@ -116,9 +129,13 @@ fn top_counted<B: WordBank + Copy, L: Ledger>(
     let mut steps = Steps::<L>::new(blank);
     let most = (nodes / SHARE) as usize;
     let mut words = Vec::new(alloc);
+    // each node of a trie has a leaf on its left side, or more
+    if nodes == 0 || left.pair(nodes as usize - 1, &mut steps).1 < nodes {
+        return Ok(words);
+    }
     let mut many = nodes / SHARE;
     // there are more nodes the fewer leaves they need have
-    while many >= SHARE {
+    while many >= SHARE && words.len() < SIZE * most {
         let more = rows_from_root(alloc, left, skip, nodes, most, many, &mut steps)?;
         // rows that are cut off leave out nodes with more leaves than others that they have
         if more.len() >= SIZE * most && !words.is_empty() {

@@ -1,6 +1,5 @@
 //! Hollow tries: of each inner node of a trie of keys only how many leaves its left child has and how
-//! many bits it skips, and the walk of a string by these numbers; and the fragments of keys at the
-//! nodes of a trie of some of them.
+//! many bits it skips, and the walk of a string by these numbers.
 #![tactic(auto)]
 
 mod cursors;
@@ -8,7 +7,6 @@ mod dist;
 mod gap;
 mod keeping;
 mod lists;
-mod node_pairs;
 mod top;
 mod turning;
 mod view;
@@ -16,14 +14,13 @@ mod walk;
 
 pub use dist::HollowDistView;
 pub use lists::{HollowLists, hollow_lists};
-pub use node_pairs::{NodePair, Turn, pairs};
 pub use view::HollowView;
 
 #[cfg(test)]
 mod dist_tests;
 #[cfg(test)]
-mod lists_tests;
+mod keeping_tests;
 #[cfg(test)]
-mod pairs_tests;
+mod lists_tests;
 #[cfg(test)]
 mod view_tests;

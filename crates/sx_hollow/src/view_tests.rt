@@ -1,5 +1,5 @@
-//! Walks over the lists of three keys, over lists of no trie, over lists of which the first nodes are
-//! kept, and where there is one key or none.
+//! Walks over the lists of three keys, over lists of no trie, also of equal numbers, over lists of which
+//! the first nodes are kept, and where there is one key or none.
 
 ghost use Rattle.std.specs.Prelude.{◌≡◌, ◌+◌, ◌<◌, ◌≤◌, ◌^◌, ℕ, length, slice_index};
 ghost use Rattle.sx_spec.specs.Fields.{below_of};
@@ -154,6 +154,19 @@ fn kept_nodes(rt: HostRuntime) -> Result<(), Fail> {
     for (line, want) in rows {
         assert!(rt; line.len() < 20);
         assert_eq!(rt; walk(rt.alloc(), &left, &skip, 2048, line)?, Some(want));
+    }
+    Ok(())
+}
+
+#[test]
+fn many_equal_numbers(rt: HostRuntime) -> Result<(), Fail> {
+    // the left child of the root has no leaf
+    let mut equal = [u64::MAX; 34];
+    equal[0] = 2048;
+    equal[1] = 1;
+    for line in [b"a".as_slice(), b"".as_slice()] {
+        assert!(rt; line.len() < 20);
+        assert_eq!(rt; walk(rt.alloc(), &equal, &equal, 2048, line)?, None);
     }
     Ok(())
 }

@@ -16,6 +16,7 @@ loop-place-preserved g c =
           (rows_more left skip c.loop-place.words.items _ _ _ _ c.loop-place.invariant.rows (omega arith) (omega arith) c.gap-below.ensures.value c.gap-skipped.ensures.value);
       few = subst (λ (words : List ℕ). length words ≤ 2 * (c.loop-place.place + 1)) (sym c.in_ok-extend_from_slice.ensures.items)
           (rows_longer c.loop-place.words.items _ _ c.loop-place.place c.loop-place.invariant.few);
+      waiting = c.wait_for_both.ensures.few;
       within = omega arith;
       counted = omega (arith, before, below, skipped);
       cost = let so_far = c.loop-place.invariant.cost in

@@ -1,7 +1,7 @@
 use Rattle.std.proofs.Common.{◌+◌, ◌-◌, ◌∙◌, arith}
 use Rattle.sx_spec.specs.Reply.{gaps}
 use Rattle.sx_bits.specs.Views.{bits_of}
-use Rattle.sx_hollow.specs.Dist.{turns_by}
+use Rattle.sx_static.specs.Reading.{answers_by}
 use Rattle.sx_hollow.specs.Views.{sums_read}
 use Rattle.sx_hollow.specs.Walks.{stand_of}
 use Rattle.sx_hollow.proofs.Asking.{ask_turn}
@@ -20,7 +20,7 @@ returns-clause-value g c =
     let from = c.from.ensures in
     c.turned.ensures.value
     ∙ ask_turn (gaps (sums_read v.left)) (gaps (sums_read v.skip))
-    (turns_by v.turns c.args.signing.seed c.args.signing.sig_bits) v.delimiters
+    (answers_by v.turns c.args.signing.seed c.args.signing.sig_bits) v.delimiters
     (bits_of c.args.view.now) (stand_of at) e.left e.skip c.turn-turn.result k rest y
     c.requires.more c.requires.within c.entry-entry.ensures.left (omega arith) (omega arith)
     (omega arith) c.entry-entry.ensures.skip (omega arith) c.range.ensures

@@ -2,7 +2,7 @@ use Rattle.std.proofs.Common.{◌∙◌, arith}
 use Rattle.sx_spec.specs.Reply.{gaps}
 use Rattle.sx_spec_kinds.specs.Hollow.{goes}
 use Rattle.sx_bits.specs.Views.{bits_of}
-use Rattle.sx_hollow.specs.Dist.{turns_by}
+use Rattle.sx_static.specs.Reading.{answers_by}
 use Rattle.sx_hollow.specs.Views.{sums_read}
 use Rattle.sx_hollow.specs.Walks.{stand_of}
 use Rattle.sx_hollow.proofs.Asking.{no_delimiters, rest_ends, rest_leaf, rest_lost, rest_starts, rest_steps}
@@ -11,7 +11,7 @@ use Rattle.sx_hollow.proofs.dist.HollowDistView.block.Goals as goal
 pub returns-then-self-eq0-clause-value : goal.returns-then-self-eq0-clause-value
 returns-then-self-eq0-clause-value g c =
     let v = c.args.self.now in
-    no_delimiters (gaps (sums_read v.left)) (gaps (sums_read v.skip)) (turns_by v.turns c.args.seed c.args.sig_bits) v.delimiters (bits_of c.args.view.now) c.if-self-eq0.true
+    no_delimiters (gaps (sums_read v.left)) (gaps (sums_read v.skip)) (answers_by v.turns c.args.seed c.args.sig_bits) v.delimiters (bits_of c.args.view.now) c.if-self-eq0.true
 
 pub loop-at-init : goal.loop-at-init
 loop-at-init g c =
@@ -24,18 +24,18 @@ loop-at-init g c =
       within = omega arith;
       counted = omega arith;
       cost = omega arith;
-      rest = rest_starts (gaps (sums_read v.left)) (gaps (sums_read v.skip)) (turns_by v.turns c.args.seed c.args.sig_bits) v.delimiters (bits_of c.args.view.now) (omega arith);
+      rest = rest_starts (gaps (sums_read v.left)) (gaps (sums_read v.skip)) (answers_by v.turns c.args.seed c.args.sig_bits) v.delimiters (bits_of c.args.view.now) (omega arith);
     }
 
 pub returns-in-Ends-clause-value : goal.returns-in-Ends-clause-value
 returns-in-Ends-clause-value g c =
     let v = c.args.self.now in
-    rest_ends (gaps (sums_read v.left)) (gaps (sums_read v.skip)) (turns_by v.turns c.args.seed c.args.sig_bits) v.delimiters (bits_of c.args.view.now) (goes (stand_of c.loop-at.at)) c.loop-at.at.leaves c.in-Ends.block c.loop-at.invariant.rest c.in-Ends.ensures.value
+    rest_ends (gaps (sums_read v.left)) (gaps (sums_read v.skip)) (answers_by v.turns c.args.seed c.args.sig_bits) v.delimiters (bits_of c.args.view.now) (goes (stand_of c.loop-at.at)) c.loop-at.at.leaves c.in-Ends.block c.loop-at.invariant.rest c.in-Ends.ensures.value
 
 pub returns-in-Lost-clause-value : goal.returns-in-Lost-clause-value
 returns-in-Lost-clause-value g c =
     let v = c.args.self.now in
-    rest_lost (gaps (sums_read v.left)) (gaps (sums_read v.skip)) (turns_by v.turns c.args.seed c.args.sig_bits) v.delimiters (bits_of c.args.view.now) (goes (stand_of c.loop-at.at)) c.loop-at.at.leaves c.loop-at.invariant.rest c.in-Lost.ensures.value
+    rest_lost (gaps (sums_read v.left)) (gaps (sums_read v.skip)) (answers_by v.turns c.args.seed c.args.sig_bits) v.delimiters (bits_of c.args.view.now) (goes (stand_of c.loop-at.at)) c.loop-at.at.leaves c.loop-at.invariant.rest c.in-Lost.ensures.value
 
 pub loop-at-preserved : goal.loop-at-preserved
 loop-at-preserved g c =
@@ -58,7 +58,7 @@ loop-at-preserved g c =
       within = later.within;
       counted = omega arith;
       cost = omega arith;
-      rest = rest_steps (gaps (sums_read v.left)) (gaps (sums_read v.skip)) (turns_by v.turns c.args.seed c.args.sig_bits) v.delimiters (bits_of c.args.view.now) (goes (stand_of c.loop-at.at)) (goes (stand_of next)) c.loop-at.at.leaves next.leaves c.loop-at.invariant.rest later.fewer c.in-Goes.ensures.value;
+      rest = rest_steps (gaps (sums_read v.left)) (gaps (sums_read v.skip)) (answers_by v.turns c.args.seed c.args.sig_bits) v.delimiters (bits_of c.args.view.now) (goes (stand_of c.loop-at.at)) (goes (stand_of next)) c.loop-at.at.leaves next.leaves c.loop-at.invariant.rest later.fewer c.in-Goes.ensures.value;
     }
 
 pub returns-clause-value : goal.returns-clause-value
@@ -67,4 +67,4 @@ returns-clause-value g c =
     let some = c.loop-at.invariant.some in
     let few = c.loop-at-test.false in
     c.ask_at_leaf.ensures.value
-    ∙ rest_leaf (gaps (sums_read v.left)) (gaps (sums_read v.skip)) (turns_by v.turns c.args.seed c.args.sig_bits) v.delimiters (bits_of c.args.view.now) (stand_of c.loop-at.at) c.loop-at.at.leaves c.loop-at.invariant.rest (omega arith)
+    ∙ rest_leaf (gaps (sums_read v.left)) (gaps (sums_read v.skip)) (answers_by v.turns c.args.seed c.args.sig_bits) v.delimiters (bits_of c.args.view.now) (stand_of c.loop-at.at) c.loop-at.at.leaves c.loop-at.invariant.rest (omega arith)

@@ -1,5 +1,0 @@
-use Rattle.sx_hollow.proofs.NodeLists.{Behind, first_inner}
-use Rattle.sx_hollow.proofs.node_pairs.push_inner.Given as goal
-
-abbrev pub invariant-loop-tag : goal.invariant-loop-tag
-invariant-loop-tag l = Behind l.keys.lines l.fn.pairs.items l.pairs.items (first_inner l.keys.lines l.delimiters l.tag)

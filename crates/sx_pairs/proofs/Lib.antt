@@ -1,0 +1,5 @@
+pub mod KeyRuns
+pub mod NodeFragments
+pub mod TurnOrders
+pub mod TrieNames
+pub mod NodeLists
