@@ -21,9 +21,9 @@ use Rattle.sx_spec.specs.StaticFunction.{part_entries}
 use Rattle.sx_spec.proofs.Members.{length_filter_le}
 use Rattle.sx_spec.proofs.Widths.{table_fits_width}
 use Rattle.sx_static.specs.Answer.{entries_of}
-use Rattle.sx_assemble.specs.Assembling.{key_signature}
-use Rattle.sx_assemble.specs.Ranking.{ArePairs, no_signature, signature_at}
-use Rattle.sx_assemble.proofs.KeyPairs.{keys_signed}
+use Rattle.sx_parts.specs.Assembling.{key_signature}
+use Rattle.sx_parts.specs.Ranking.{ArePairs, no_signature, signature_at}
+use Rattle.sx_parts.proofs.KeyPairs.{keys_signed}
 
 -- ---- how many lengths and codes there are
 

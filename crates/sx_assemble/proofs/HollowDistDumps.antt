@@ -33,19 +33,19 @@ use Rattle.sx_bits.proofs.KeyListBits.{key_list_bits}
 use Rattle.sx_static.specs.declared.FuncBuf.{FuncBuf}
 use Rattle.sx_static.specs.Answer.{function_of}
 use Rattle.sx_trie.specs.Tries.{AreRising, delimiter_bits}
-use Rattle.sx_hollow.specs.declared.node_pairs.turn.NodePair.{NodePair}
-use Rattle.sx_hollow.specs.Pairs.{string_turn, turn_number}
-use Rattle.sx_assemble.specs.declared.layout.SectionBuf.{SectionBuf}
-use Rattle.sx_assemble.specs.declared.layout.SectionBuf.TheVariants.{Function}
-use Rattle.sx_assemble.specs.declared.parts.Stop.{Stop}
-use Rattle.sx_assemble.specs.Ranking.{ArePairs, IsBlockPlan}
-use Rattle.sx_assemble.specs.Sectioning.{AreKindSections, IsPartDone, IsWhole, StopsPart, StopsParts, held_words, piece_signature, section_built}
-use Rattle.sx_assemble.proofs.BuiltDumps.{few_lines}
+use Rattle.sx_pairs.specs.declared.turn.NodePair.{NodePair}
+use Rattle.sx_pairs.specs.Pairs.{string_turn, turn_number}
+use Rattle.sx_parts.specs.declared.layout.SectionBuf.{SectionBuf}
+use Rattle.sx_parts.specs.declared.layout.SectionBuf.TheVariants.{Function}
+use Rattle.sx_parts.specs.declared.parts.Stop.{Stop}
+use Rattle.sx_parts.specs.Ranking.{ArePairs, IsBlockPlan}
+use Rattle.sx_parts.specs.Sectioning.{AreKindSections, IsPartDone, IsWhole, StopsPart, StopsParts, held_words, piece_signature, section_built}
+use Rattle.sx_parts.proofs.BuiltDumps.{few_lines}
 use Rattle.sx_assemble.proofs.HollowDumps.{held_few, left_length, skip_length}
-use Rattle.sx_assemble.proofs.KeySizes.{keys_short}
-use Rattle.sx_assemble.proofs.Layouts.{few_words}
+use Rattle.sx_parts.proofs.KeySizes.{keys_short}
+use Rattle.sx_parts.proofs.Layouts.{few_words}
 use Rattle.sx_assemble.proofs.LcpDumps.{entry_count}
-use Rattle.sx_assemble.proofs.PartLists.{cells_counted, function_few, stops_at, twice_cells, twice_words, whole}
+use Rattle.sx_parts.proofs.PartLists.{cells_counted, function_few, stops_at, twice_cells, twice_words, whole}
 
 -- ---- delimiters
 

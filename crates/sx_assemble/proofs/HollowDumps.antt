@@ -27,16 +27,16 @@ use Rattle.sx_bits.specs.KeyLists.{IsKeyList, Keys}
 use Rattle.sx_bits.proofs.KeyListBits.{key_list_bits}
 use Rattle.sx_ef.proofs.Widths.{upper_few, width_le}
 use Rattle.sx_trie.specs.Tries.{AreRising, delimiter_bits}
-use Rattle.sx_assemble.specs.declared.layout.SectionBuf.{SectionBuf}
-use Rattle.sx_assemble.specs.Assembling.{key_signature}
+use Rattle.sx_parts.specs.declared.layout.SectionBuf.{SectionBuf}
+use Rattle.sx_parts.specs.Assembling.{key_signature}
 use Rattle.sx_assemble.specs.Hollowing.{AreHollow, IsHollowPlan}
-use Rattle.sx_assemble.specs.Sectioning.{AreKindSections, AreSectionsOf, AreSigned, IsWhole, header_for, held_words, section_built}
-use Rattle.sx_assemble.proofs.BuiltDumps.{AreSources, few_lines}
-use Rattle.sx_assemble.proofs.Cells.{words_le}
-use Rattle.sx_assemble.proofs.KeySizes.{keys_short}
-use Rattle.sx_assemble.proofs.Layouts.{few_words, section_laid}
-use Rattle.sx_assemble.proofs.NarrowValues.{each_small}
-use Rattle.sx_assemble.proofs.SignedEnds.{all_sections}
+use Rattle.sx_parts.specs.Sectioning.{AreKindSections, AreSectionsOf, AreSigned, IsWhole, header_for, held_words, section_built}
+use Rattle.sx_parts.proofs.BuiltDumps.{AreSources, few_lines}
+use Rattle.sx_parts.proofs.Cells.{words_le}
+use Rattle.sx_parts.proofs.KeySizes.{keys_short}
+use Rattle.sx_parts.proofs.Layouts.{few_words, section_laid}
+use Rattle.sx_parts.proofs.NarrowValues.{each_small}
+use Rattle.sx_parts.proofs.SignedEnds.{all_sections}
 
 -- ---- all keys
 

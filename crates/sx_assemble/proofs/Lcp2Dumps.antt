@@ -21,17 +21,17 @@ use Rattle.sx_bits.specs.KeyLists.{IsKeyList, Keys}
 use Rattle.sx_fields.specs.Numbers.{Numbers as NumberList}
 use Rattle.sx_static.specs.declared.FuncBuf.{FuncBuf}
 use Rattle.sx_static.specs.Answer.{IsDone, entries_of, function_of}
-use Rattle.sx_assemble.specs.declared.layout.SectionBuf.TheVariants.{Function, Numbers}
-use Rattle.sx_assemble.specs.declared.parts.Stop.{Stop}
-use Rattle.sx_assemble.specs.Assembling.{key_signature, tries}
-use Rattle.sx_assemble.specs.Ranking.{IsBlockPlan, signature_at}
-use Rattle.sx_assemble.specs.Sectioning.{AreKindSections, IsPartDone, StopsPart, StopsParts, held_words}
+use Rattle.sx_parts.specs.declared.layout.SectionBuf.TheVariants.{Function, Numbers}
+use Rattle.sx_parts.specs.declared.parts.Stop.{Stop}
+use Rattle.sx_parts.specs.Assembling.{key_signature, tries}
+use Rattle.sx_parts.specs.Ranking.{IsBlockPlan, signature_at}
+use Rattle.sx_parts.specs.Sectioning.{AreKindSections, IsPartDone, StopsPart, StopsParts, held_words}
 use Rattle.sx_assemble.proofs.CodePairs.{codes_are, escaped_are, lens_count}
-use Rattle.sx_assemble.proofs.KeyPairs.{least_of}
-use Rattle.sx_assemble.proofs.KeySizes.{codes_narrow, lens_narrow}
-use Rattle.sx_assemble.proofs.Layouts.{few_words, list_few}
+use Rattle.sx_parts.proofs.KeyPairs.{least_of}
+use Rattle.sx_parts.proofs.KeySizes.{codes_narrow, lens_narrow}
+use Rattle.sx_parts.proofs.Layouts.{few_words, list_few}
 use Rattle.sx_assemble.proofs.LcpDumps.{entry_count}
-use Rattle.sx_assemble.proofs.PartLists.{cells_counted, function_few, stops_at, whole}
+use Rattle.sx_parts.proofs.PartLists.{cells_counted, function_few, stops_at, whole}
 
 -- the parts of a plan, by themselves
 abbrev pub offsets_part : Plan → List Text → Part

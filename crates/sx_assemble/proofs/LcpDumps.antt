@@ -19,13 +19,13 @@ use Rattle.sx_spec.specs.Values.{plain_values}
 use Rattle.sx_spec.proofs.Members.{few_lengths, few_prefixes}
 use Rattle.sx_bits.specs.KeyLists.{IsKeyList, Keys}
 use Rattle.sx_static.specs.declared.FuncBuf.{FuncBuf}
-use Rattle.sx_assemble.specs.declared.layout.SectionBuf.TheVariants.{Function}
-use Rattle.sx_assemble.specs.declared.parts.Stop.{Stop}
-use Rattle.sx_assemble.specs.Ranking.{IsBlockPlan}
-use Rattle.sx_assemble.specs.Sectioning.{AreKindSections, IsPartDone, StopsPart, StopsParts, header_for}
-use Rattle.sx_assemble.proofs.BuiltDumps.{AreSources, few_lines}
-use Rattle.sx_assemble.proofs.Layouts.{few_words}
-use Rattle.sx_assemble.proofs.PartLists.{cells_counted, function_few, stops_at, whole}
+use Rattle.sx_parts.specs.declared.layout.SectionBuf.TheVariants.{Function}
+use Rattle.sx_parts.specs.declared.parts.Stop.{Stop}
+use Rattle.sx_parts.specs.Ranking.{IsBlockPlan}
+use Rattle.sx_parts.specs.Sectioning.{AreKindSections, IsPartDone, StopsPart, StopsParts, header_for}
+use Rattle.sx_parts.proofs.BuiltDumps.{AreSources, few_lines}
+use Rattle.sx_parts.proofs.Layouts.{few_words}
+use Rattle.sx_parts.proofs.PartLists.{cells_counted, function_few, stops_at, whole}
 
 -- ---- any kind with blocks
 

@@ -7,8 +7,8 @@ use Rattle.sx_spec_kinds.specs.Hollow.{left_counts, skips}
 use Rattle.sx_spec.specs.declared.Method.TheVariants.{Mwhc}
 use Rattle.sx_spec.specs.declared.Plan.{Plan}
 use Rattle.sx_spec.specs.Built.{sums_list}
-use Rattle.sx_assemble.specs.declared.layout.SectionBuf.{SectionBuf}
-use Rattle.sx_assemble.specs.Sectioning.{IsWhole, held_words, section_built}
+use Rattle.sx_parts.specs.declared.layout.SectionBuf.{SectionBuf}
+use Rattle.sx_parts.specs.Sectioning.{IsWhole, held_words, section_built}
 
 -- a plan of a hollow trie, with 0 and the first method where the kind has no use for an option
 pub record IsHollowPlan (plan : Plan) : Type 0 where

@@ -6,9 +6,9 @@ use Rattle.sx_spec.specs.Parts.{least_width}
 use Rattle.sx_static.specs.declared.FuncBuf.{FuncBuf}
 use Rattle.sx_static.specs.Answer.{IsDone, entries_of}
 use Rattle.sx_assemble.specs.declared.lcp2.KeyFunctions.{KeyFunctions}
-use Rattle.sx_assemble.specs.declared.parts.Stop.{Stop}
-use Rattle.sx_assemble.specs.Assembling.{tries}
-use Rattle.sx_assemble.specs.Sectioning.{StopsPart}
+use Rattle.sx_parts.specs.declared.parts.Stop.{Stop}
+use Rattle.sx_parts.specs.Assembling.{tries}
+use Rattle.sx_parts.specs.Sectioning.{StopsPart}
 
 -- the functions give the signatures their offsets, as wide as the greatest, and their codes of so many bits
 pub record AreKeyFunctions (method : Method) (sigs : List Signature) (offsets codes : List ℕ) (bits : ℕ) (f : KeyFunctions) : Type 0 where

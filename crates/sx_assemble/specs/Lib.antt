@@ -1,5 +1,3 @@
-pub mod Assembling
 pub mod Hollowing
-pub mod Ranking
-pub mod Sectioning
 pub mod KeyFunctions
+pub mod Handling

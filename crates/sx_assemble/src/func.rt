@@ -3,16 +3,16 @@
 ghost use Rattle.std.specs.Prelude.{◌≡◌, ◌≢◌, IfOk, MatchResult, length};
 ghost use Rattle.sx_spec.specs.Parts.{least_width as least_width_of, parts_of};
 ghost use Rattle.sx_spec.specs.Values.{plain_values};
-ghost use Rattle.sx_assemble.specs.Assembling.{IsAssembled, IsFuncPlan};
-ghost use Rattle.sx_assemble.specs.Sectioning.{AreSectionsOf, StopsParts};
+ghost use Rattle.sx_parts.specs.Assembling.{IsAssembled, IsFuncPlan};
+ghost use Rattle.sx_parts.specs.Sectioning.{AreSectionsOf, StopsParts};
 
-use crate::layout::SectionBuf;
-use crate::parts::{Stop, build_least};
-use crate::signatures::sign_keys;
-use crate::signed::with_signatures;
-use crate::{Assembled, finished, header_of};
 use std::alloc::{AllocError, Global};
 use sx_bits::KeyList;
+use sx_parts::layout::SectionBuf;
+use sx_parts::parts::{Stop, build_least};
+use sx_parts::signatures::sign_keys;
+use sx_parts::signed::with_signatures;
+use sx_parts::{Assembled, finished, header_of};
 use sx_sig::Plan;
 
 /// The sections of the kind `func`: the static function that gives each key its value, and what a

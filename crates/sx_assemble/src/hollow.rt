@@ -6,17 +6,17 @@ ghost use Rattle.sx_spec_kinds.specs.Hollow.{left_counts, skips};
 ghost use Rattle.sx_spec.specs.Built.{sums_from, sums_list};
 ghost use Rattle.sx_bits.specs.KeyLists.{IsKeyList};
 ghost use Rattle.sx_assemble.specs.Hollowing.{AreHollow, IsHollowPlan};
-ghost use Rattle.sx_assemble.specs.Ranking.{IsRanked};
-ghost use Rattle.sx_assemble.specs.Sectioning.{IsWhole, section_built};
+ghost use Rattle.sx_parts.specs.Ranking.{IsRanked};
+ghost use Rattle.sx_parts.specs.Sectioning.{IsWhole, section_built};
 
-use crate::layout::SectionBuf;
-use crate::numbers::members_to;
-use crate::signed::with_key_signatures;
-use crate::{Assembled, finished, header_of};
 use std::alloc::{AllocError, Global};
 use sx_bits::KeyList;
 use sx_ef::view::EliasFano;
 use sx_hollow::{HollowLists, hollow_lists};
+use sx_parts::layout::SectionBuf;
+use sx_parts::numbers::members_to;
+use sx_parts::signed::with_key_signatures;
+use sx_parts::{Assembled, finished, header_of};
 use sx_sig::Plan;
 
 /// The sections of the sums of a trie's lists: of the counts of leaves, and of the bits that are

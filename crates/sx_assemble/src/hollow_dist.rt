@@ -13,50 +13,24 @@ ghost use Rattle.sx_spec.specs.Parts.{least_part, parts_of};
 ghost use Rattle.sx_spec.specs.StaticFunction.{part_entries};
 ghost use Rattle.sx_bits.specs.KeyLists.{IsKeyList};
 ghost use Rattle.sx_bits.specs.Pieces.{IsPiece};
-ghost use Rattle.sx_trie.specs.Tries.{AreRising, delimiter_bits};
-ghost use Rattle.sx_hollow.specs.Pairs.{string_turn, turn_number};
-ghost use Rattle.sx_assemble.specs.Ranking.{IsBlockPlan, IsRanked};
-ghost use Rattle.sx_assemble.specs.Sectioning.{AreSectionsOf, IsPartDone, IsWhole, StopsPart, StopsParts, piece_signature, section_built};
+ghost use Rattle.sx_pairs.specs.Pairs.{string_turn, turn_number};
+ghost use Rattle.sx_parts.specs.Ranking.{IsBlockPlan, IsRanked};
+ghost use Rattle.sx_parts.specs.Sectioning.{AreSectionsOf, IsPartDone, IsWhole, StopsPart, StopsParts, piece_signature, section_built};
 
+use crate::delimiters::delimiter_numbers;
 use crate::hollow::{TrieSums, trie_sums};
-use crate::layout::SectionBuf;
 use crate::lcp2::offsets_function;
-use crate::parts::{Stop, build_least};
-use crate::signatures::sign_keys;
-use crate::signed::with_key_signatures;
-use crate::{Assembled, finished, header_of};
 use std::alloc::{AllocError, Global};
 use sx_bits::KeyList;
-use sx_hollow::{NodePair, Turn, hollow_lists, pairs};
+use sx_hollow::hollow_lists;
+use sx_pairs::{NodePair, Turn, pairs};
+use sx_parts::layout::SectionBuf;
+use sx_parts::parts::{Stop, build_least};
+use sx_parts::signatures::sign_keys;
+use sx_parts::signed::with_key_signatures;
+use sx_parts::{Assembled, finished, header_of};
 use sx_sig::{Plan, Signature, sign};
 use sx_static::FuncBuf;
-
-/// How many keys a full block has.
-fn full_size(log_bucket: u32) -> u32
-    requires { log_bucket ≤ 12 }
-    ensures value { result ≡ block_size log_bucket }
-    ensures some { 0 < result }
-{
-    1 << log_bucket
-}
-
-/// The numbers of the delimiters, which rise: those of the last keys of all blocks but the last.
-fn delimiter_numbers(alloc: Global, keys: &KeyList, log_bucket: u32) -> Result<Vec<u32>, AllocError>
-    requires { log_bucket ≤ 12 }
-    ensures rising { IfOk result (λ numbers. AreRising keys.now.lines numbers.items) }
-    ensures bits { IfOk result (λ numbers. delimiter_bits keys.now.lines numbers.items
-        ≡ delimiters_of (block_size log_bucket) (map key_bits keys.now.lines)) }
-    ensures keys { IsKeyList keys.now }
-{
-    let count = keys.len();
-    let size = full_size(log_bucket);
-    let full = count.div_ceil(size).saturating_sub(1);
-    let mut numbers = Vec::with_capacity(alloc, full as usize)?;
-    for block in 0..full {
-        numbers.push(block * size + (size - 1))?;
-    }
-    Ok(numbers)
-}
 
 /// The sums of the trie of the delimiters.
 fn delimiter_sums(alloc: Global, keys: &KeyList, log_bucket: u32) -> Result<TrieSums, AllocError>

@@ -11,19 +11,19 @@ ghost use Rattle.sx_spec.specs.Parts.{least_part, least_width as least_width_of,
 ghost use Rattle.sx_spec.specs.StaticFunction.{part_entries};
 ghost use Rattle.sx_bits.specs.Pieces.{IsPiece, piece_string};
 ghost use Rattle.sx_static.specs.Answer.{IsDone, entries_of};
-ghost use Rattle.sx_assemble.specs.Assembling.{tries};
-ghost use Rattle.sx_assemble.specs.Ranking.{IsBlockPlan, IsRanked, length_numbers as length_numbers_of};
-ghost use Rattle.sx_assemble.specs.Sectioning.{AreSectionsOf, IsPartDone, StopsPart, StopsParts};
+ghost use Rattle.sx_parts.specs.Assembling.{tries};
+ghost use Rattle.sx_parts.specs.Ranking.{IsBlockPlan, IsRanked, length_numbers as length_numbers_of};
+ghost use Rattle.sx_parts.specs.Sectioning.{AreSectionsOf, IsPartDone, StopsPart, StopsParts};
 
-use crate::layout::SectionBuf;
-use crate::numbers::{length_numbers, numbers_to};
-use crate::parts::{Stop, build_least};
-use crate::signatures::{sign_keys, sign_pieces};
-use crate::signed::with_signatures;
-use crate::{Assembled, finished, header_of};
 use std::alloc::{AllocError, Global};
 use sx_bits::{KeyList, Piece};
 use sx_lcp::{LcpParts, lcp_parts};
+use sx_parts::layout::SectionBuf;
+use sx_parts::numbers::{length_numbers, numbers_to};
+use sx_parts::parts::{Stop, build_least};
+use sx_parts::signatures::{sign_keys, sign_pieces};
+use sx_parts::signed::with_signatures;
+use sx_parts::{Assembled, finished, header_of};
 use sx_sig::{Plan, Signature};
 use sx_static::FuncBuf;
 

@@ -6,24 +6,24 @@ ghost use Rattle.sx_spec.specs.declared.Method.TheVariants.{Mwhc};
 ghost use Rattle.sx_spec_kinds.specs.Blocks.{block_size};
 ghost use Rattle.sx_spec.specs.Parts.{least_width as least_width_of, parts_of};
 ghost use Rattle.sx_static.specs.Answer.{IsDone, entries_of};
-ghost use Rattle.sx_assemble.specs.Assembling.{tries};
-ghost use Rattle.sx_assemble.specs.Ranking.{IsBlockPlan, IsRanked, offset_numbers as offset_numbers_of, signature_at};
-ghost use Rattle.sx_assemble.specs.Sectioning.{AreSectionsOf, StopsPart, StopsParts};
+ghost use Rattle.sx_parts.specs.Assembling.{tries};
+ghost use Rattle.sx_parts.specs.Ranking.{IsBlockPlan, IsRanked, offset_numbers as offset_numbers_of, signature_at};
+ghost use Rattle.sx_parts.specs.Sectioning.{AreSectionsOf, StopsPart, StopsParts};
 ghost use Rattle.sx_assemble.specs.KeyFunctions.{AreKeyFunctions, StopsKeyFunctions};
 
-use crate::layout::{SectionBuf, packed_list};
 use crate::lcp::prefixes_function;
-use crate::numbers::{
-    length_numbers, narrow_width, numbers_at, offset_numbers, offset_width, widened,
-};
-use crate::parts::{Stop, build_least, build_part, failed};
-use crate::signatures::{sign_keys, signatures_at};
-use crate::signed::with_signatures;
-use crate::{Assembled, PartCause, finished, header_of};
 use std::alloc::{AllocError, Global};
 use sx_bits::KeyList;
 use sx_fields::packed_buf::PackedBuf;
 use sx_lcp::{TwoStep, lcp_parts, two_step};
+use sx_parts::layout::{SectionBuf, packed_list};
+use sx_parts::numbers::{
+    length_numbers, narrow_width, numbers_at, offset_numbers, offset_width, widened,
+};
+use sx_parts::parts::{Stop, build_least, build_part, failed};
+use sx_parts::signatures::{sign_keys, signatures_at};
+use sx_parts::signed::with_signatures;
+use sx_parts::{Assembled, PartCause, finished, header_of};
 use sx_sig::{Method, Plan, Signature};
 use sx_static::{Both, FuncBuf, build_both};
 

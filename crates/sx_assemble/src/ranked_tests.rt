@@ -4,17 +4,18 @@ ghost use Rattle.std.specs.Prelude.{◌≡◌, ◌≤◌};
 ghost use Rattle.sx_spec.specs.declared.Method.TheVariants.{Mwhc};
 ghost use Rattle.sx_spec_program.specs.Program.{IsOfferedPlan};
 
-use crate::Assembled;
-use crate::numbers::numbers_to;
 use crate::tests::{assembled_under, keys_of, twins_in};
 use std::marker::Brand;
 use std::process::Abort;
 use std::sync::ledger::Blank;
 use std::test::Fail;
+use sx_bits::KeyList;
+use sx_parts::Assembled;
+use sx_parts::numbers::numbers_to;
 use sx_sig::{Kind, Method, Plan};
 
 /// A plan of whole signatures, with blocks of 2 to the power `log_bucket` keys.
-fn plan_of(kind: Kind, log_bucket: u32) -> Plan
+pub(crate) fn plan_of(kind: Kind, log_bucket: u32) -> Plan
     ensures { result ≡ record {
       kind = kind;
       method = Mwhc;
@@ -50,8 +51,21 @@ fn signed_plan(kind: Kind, signed: u32) -> Plan
     plan
 }
 
-/// What the keys with their numbers come to with seed 0.
-fn numbered(
+/// What keys with their numbers come to with seed 0.
+fn numbered_keys(
+    rt: &(impl Abort + AllocGlobal),
+    plan: &Plan,
+    keys: &KeyList,
+) -> Result<Assembled, Fail>
+    requires { IsOfferedPlan plan.now }
+{
+    let values = numbers_to(rt.alloc(), keys.len())?;
+    let blank = Blank::new(1);
+    Ok(assembled_under::<Brand>(rt.alloc(), keys, &values, plan, blank)?)
+}
+
+/// The same of keys that are given line by line.
+pub(crate) fn numbered(
     rt: &(impl Abort + AllocGlobal),
     plan: &Plan,
     lines: &[&[u8]],
@@ -59,24 +73,38 @@ fn numbered(
     requires { IsOfferedPlan plan.now }
 {
     let keys = keys_of(rt, lines)?;
-    let values = numbers_to(rt.alloc(), keys.len())?;
-    let blank = Blank::new(1);
-    Ok(assembled_under::<Brand>(rt.alloc(), &keys, &values, plan, blank)?)
+    numbered_keys(rt, plan, &keys)
 }
 
-/// The words of their dump, for which seed 0 works.
-fn ranked(rt: &(impl Abort + AllocGlobal), plan: &Plan, lines: &[&[u8]]) -> Result<Vec<u64>, Fail>
+/// The words of the dump of keys, for which seed 0 works.
+pub(crate) fn ranked_keys(
+    rt: &(impl Abort + AllocGlobal),
+    plan: &Plan,
+    keys: &KeyList,
+) -> Result<Vec<u64>, Fail>
     requires { IsOfferedPlan plan.now }
 {
-    let words = match numbered(rt, plan, lines)? {
+    let words = match numbered_keys(rt, plan, keys)? {
         Assembled::Words(words) => Some(words),
         Assembled::SeedFailed(_) => None,
     };
     Ok(words.ok_or("the seed fails")?)
 }
 
+/// The same of keys that are given line by line.
+pub(crate) fn ranked(
+    rt: &(impl Abort + AllocGlobal),
+    plan: &Plan,
+    lines: &[&[u8]],
+) -> Result<Vec<u64>, Fail>
+    requires { IsOfferedPlan plan.now }
+{
+    let keys = keys_of(rt, lines)?;
+    ranked_keys(rt, plan, &keys)
+}
+
 /// The first two words of the section at a place: the width and the number of pairs of a function.
-fn head_at(words: &[u64], at: usize) -> Option<(u64, u64)> {
+pub(crate) fn head_at(words: &[u64], at: usize) -> Option<(u64, u64)> {
     let rest = words.get(at..)?;
     Some((*rest.first()?, *rest.get(1)?))
 }

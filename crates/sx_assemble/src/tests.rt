@@ -5,13 +5,14 @@ ghost use Rattle.sx_spec.specs.Values.{plain_values};
 ghost use Rattle.sx_spec_program.specs.Program.{IsOfferedPlan};
 ghost use Rattle.sx_steps.specs.Blanks.{IsBlankOf};
 
-use crate::{Assembled, PartCause, PartFault, assemble};
+use crate::assemble;
 use std::alloc::{AllocError, Global};
 use std::marker::Brand;
 use std::process::Abort;
 use std::sync::ledger::{Blank, Ledger};
 use std::test::Fail;
 use sx_bits::KeyList;
+use sx_parts::{Assembled, PartCause, PartFault};
 use sx_sig::{Kind, Method, Plan};
 use sx_spec::Limits;
 use sx_steps::Steps;

@@ -13,10 +13,10 @@ use Rattle.sx_spec.specs.Messages.{message, spaced, witness_word, cause_text, fa
 use Rattle.sx_spec.specs.StaticFunction.{twins, stuck}
 use Rattle.sx_static.specs.Answer.{witness_numbers}
 use Rattle.sx_static.specs.declared.Witness.{Witness}
-use Rattle.sx_assemble.specs.Assembling.{failure_of, cause_of}
-use Rattle.sx_assemble.specs.declared.PartFault.{PartFault}
-use Rattle.sx_assemble.specs.declared.PartCause.{PartCause}
-use Rattle.sx_assemble.specs.declared.PartCause.TheVariants.{Stuck}
+use Rattle.sx_parts.specs.Assembling.{failure_of, cause_of}
+use Rattle.sx_parts.specs.declared.PartFault.{PartFault}
+use Rattle.sx_parts.specs.declared.PartCause.{PartCause}
+use Rattle.sx_parts.specs.declared.PartCause.TheVariants.{Stuck}
 use Rattle.sx_text.proofs.Texts.{five, behind_five}
 use Rattle.sx_text.specs.FailureTexts.{place_of_part, front_text, witness_text, tries_text, twins_text}
 

@@ -3,12 +3,12 @@ ghost use Rattle.std.specs.Prelude.{◌≡◌, ◌++◌, [], OnOk, unwrap_or, sl
 ghost use Rattle.sx_spec.specs.Messages.{failure_text, spaced, witness_word};
 ghost use Rattle.sx_spec.specs.Kinds.{part_names};
 ghost use Rattle.sx_static.specs.Answer.{witness_numbers};
-ghost use Rattle.sx_assemble.specs.Assembling.{failure_of};
+ghost use Rattle.sx_parts.specs.Assembling.{failure_of};
 ghost use Rattle.sx_text.specs.FailureTexts.{front_text, pair_text, try_text, tries_text, twins_text, witness_text};
 
 use crate::messages::push_number;
 use std::alloc::AllocError;
-use sx_assemble::{PartCause, PartFault, Witness};
+use sx_parts::{PartCause, PartFault, Witness};
 use sx_spec::{Kind, Method, Plan};
 
 /// The name of a kind's part.

@@ -1,8 +1,8 @@
 use Rattle.std.proofs.Common.{refl, arith}
 use Rattle.sx_spec.specs.Parts.{least_width}
-use Rattle.sx_assemble.proofs.BuiltDumps.{AreSources, all_assembled, few_lines}
-use Rattle.sx_assemble.proofs.KeyParts.{func_header}
-use Rattle.sx_assemble.proofs.NarrowValues.{least_narrow}
+use Rattle.sx_parts.proofs.BuiltDumps.{AreSources, all_assembled, few_lines}
+use Rattle.sx_parts.proofs.KeyParts.{func_header}
+use Rattle.sx_parts.proofs.NarrowValues.{least_narrow}
 use Rattle.sx_assemble.proofs.func.assemble_func.Goals as goal
 
 pub returns : goal.returns

@@ -4,12 +4,12 @@ use Rattle.std.proofs.lemmas.Result.{err_from_is_err_and}
 use Rattle.sx_spec_kinds.specs.declared.Kind.TheVariants.{Func}
 use Rattle.sx_spec.specs.declared.Signature.{Signature}
 use Rattle.sx_spec.specs.Parts.{least_width, parts_of}
-use Rattle.sx_assemble.specs.Assembling.{key_signature}
-use Rattle.sx_assemble.specs.Sectioning.{AreKindSections}
-use Rattle.sx_assemble.proofs.BuiltDumps.{few_lines}
-use Rattle.sx_assemble.proofs.KeyParts.{func_done, func_stops}
-use Rattle.sx_assemble.proofs.PartLists.{stops_out}
-use Rattle.sx_assemble.proofs.SignedEnds.{all_sections, few_signatures}
+use Rattle.sx_parts.specs.Assembling.{key_signature}
+use Rattle.sx_parts.specs.Sectioning.{AreKindSections}
+use Rattle.sx_parts.proofs.BuiltDumps.{few_lines}
+use Rattle.sx_parts.proofs.KeyParts.{func_done, func_stops}
+use Rattle.sx_parts.proofs.PartLists.{stops_out}
+use Rattle.sx_parts.proofs.SignedEnds.{all_sections, few_signatures}
 use Rattle.sx_assemble.proofs.func.func_sections.Goals as goal
 
 pub build_least-requires-clause-few : goal.build_least-requires-clause-few

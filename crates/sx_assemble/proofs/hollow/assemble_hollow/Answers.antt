@@ -1,7 +1,7 @@
 use Rattle.std.proofs.Common.{Ok, ap, arith}
 use Rattle.sx_spec_kinds.specs.declared.Kind.{Kind}
 use Rattle.sx_spec.specs.Reply.{member_numbers}
-use Rattle.sx_assemble.proofs.BuiltDumps.{all_ranked}
+use Rattle.sx_parts.proofs.BuiltDumps.{all_ranked}
 use Rattle.sx_assemble.proofs.HollowDumps.{hollow_parts_same, hollow_sources, hollow_whole}
 use Rattle.sx_assemble.proofs.hollow.assemble_hollow.Goals as goal
 

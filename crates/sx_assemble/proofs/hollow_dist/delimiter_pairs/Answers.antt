@@ -1,10 +1,10 @@
 use Rattle.std.proofs.Common.{◌≡◌, ◌∙◌, ◌+◌, ℕ, List, IfOk, length, map, ap, subst, sym, arith}
 use Rattle.sx_spec_strings.specs.Bits.{Bits, key_bits}
 use Rattle.sx_spec_kinds.specs.Pairs.{turns_pairs}
-use Rattle.sx_hollow.specs.Pairs.{string_turn}
+use Rattle.sx_pairs.specs.Pairs.{string_turn}
 use Rattle.sx_trie.specs.Tries.{AreRising, delimiter_bits}
 use Rattle.sx_trie.proofs.KeyNumbers.{no_more}
-use Rattle.sx_assemble.proofs.BuiltDumps.{few_lines}
+use Rattle.sx_parts.proofs.BuiltDumps.{few_lines}
 use Rattle.sx_assemble.proofs.HollowDistDumps.{few_pairs}
 use Rattle.sx_assemble.proofs.hollow_dist.delimiter_pairs.Goals as goal
 

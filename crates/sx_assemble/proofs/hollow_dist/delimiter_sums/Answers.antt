@@ -5,8 +5,8 @@ use Rattle.sx_spec_kinds.specs.Hollow.{left_counts, skips}
 use Rattle.sx_spec.specs.Built.{sums_list}
 use Rattle.sx_trie.specs.Tries.{AreRising, delimiter_bits}
 use Rattle.sx_trie.proofs.KeyNumbers.{no_more}
-use Rattle.sx_assemble.specs.Sectioning.{section_built}
-use Rattle.sx_assemble.proofs.BuiltDumps.{few_lines}
+use Rattle.sx_parts.specs.Sectioning.{section_built}
+use Rattle.sx_parts.proofs.BuiltDumps.{few_lines}
 use Rattle.sx_assemble.proofs.hollow_dist.delimiter_sums.Goals as goal
 
 pub hollow_lists-requires : goal.hollow_lists-requires

@@ -2,12 +2,12 @@ use Rattle.std.proofs.Common.{[], map, refl, subst, sym}
 use Rattle.std.proofs.lemmas.Result.{err_from_is_err_and}
 use Rattle.sx_spec_kinds.specs.declared.Kind.TheVariants.{HollowDist}
 use Rattle.sx_spec.specs.Parts.{parts_of}
-use Rattle.sx_assemble.specs.Assembling.{key_signature}
-use Rattle.sx_assemble.specs.Sectioning.{AreKindSections}
-use Rattle.sx_assemble.proofs.BuiltDumps.{few_lines}
+use Rattle.sx_parts.specs.Assembling.{key_signature}
+use Rattle.sx_parts.specs.Sectioning.{AreKindSections}
+use Rattle.sx_parts.proofs.BuiltDumps.{few_lines}
 use Rattle.sx_assemble.proofs.HollowDistDumps.{dist_done, dist_stops_first, dist_stops_second}
-use Rattle.sx_assemble.proofs.PartLists.{stops_out}
-use Rattle.sx_assemble.proofs.SignedEnds.{all_sections}
+use Rattle.sx_parts.proofs.PartLists.{stops_out}
+use Rattle.sx_parts.proofs.SignedEnds.{all_sections}
 use Rattle.sx_assemble.proofs.hollow_dist.hollow_dist_sections.Goals as goal
 
 pub returns-in_err-offsets : goal.returns-in_err-offsets

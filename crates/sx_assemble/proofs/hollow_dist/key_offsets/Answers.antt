@@ -4,10 +4,10 @@ use Rattle.sx_spec_strings.specs.Bits.{key_bits}
 use Rattle.sx_spec_kinds.specs.Blocks.{block_size}
 use Rattle.sx_spec_kinds.specs.Pairs.{offsets_pairs}
 use Rattle.sx_spec.specs.declared.Signature.{Signature}
-use Rattle.sx_assemble.specs.Assembling.{key_signature}
-use Rattle.sx_assemble.specs.Ranking.{offset_numbers}
-use Rattle.sx_assemble.proofs.KeyPairs.{least_of, offsets_are}
-use Rattle.sx_assemble.proofs.SignedEnds.{few_signatures}
+use Rattle.sx_parts.specs.Assembling.{key_signature}
+use Rattle.sx_parts.specs.Ranking.{offset_numbers}
+use Rattle.sx_parts.proofs.KeyPairs.{least_of, offsets_are}
+use Rattle.sx_parts.proofs.SignedEnds.{few_signatures}
 use Rattle.sx_assemble.proofs.hollow_dist.key_offsets.Goals as goal
 
 pub offsets_function-requires-clause-few : goal.offsets_function-requires-clause-few

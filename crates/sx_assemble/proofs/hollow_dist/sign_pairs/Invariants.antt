@@ -1,5 +1,5 @@
 use Rattle.std.proofs.Common.{◌≡◌, map, take}
-use Rattle.sx_assemble.specs.Sectioning.{piece_signature}
+use Rattle.sx_parts.specs.Sectioning.{piece_signature}
 use Rattle.sx_assemble.proofs.hollow_dist.sign_pairs.Given as goal
 
 abbrev pub invariant-loop-pair : goal.invariant-loop-pair

@@ -1,5 +1,5 @@
 use Rattle.std.proofs.Common.{◌≡◌, map, take}
-use Rattle.sx_hollow.specs.Pairs.{turn_number}
+use Rattle.sx_pairs.specs.Pairs.{turn_number}
 use Rattle.sx_assemble.proofs.hollow_dist.turn_numbers.Given as goal
 
 abbrev pub invariant-loop-turn : goal.invariant-loop-turn

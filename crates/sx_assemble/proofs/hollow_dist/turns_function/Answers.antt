@@ -4,13 +4,13 @@ use Rattle.sx_spec_strings.specs.Bits.{key_bits}
 use Rattle.sx_spec_kinds.specs.Blocks.{block_size, delimiters_of}
 use Rattle.sx_spec_kinds.specs.Pairs.{turns_pairs}
 use Rattle.sx_spec.specs.declared.Signature.{Signature}
-use Rattle.sx_hollow.specs.declared.node_pairs.turn.NodePair.{NodePair}
-use Rattle.sx_hollow.specs.declared.node_pairs.turn.Turn.{Turn}
-use Rattle.sx_hollow.specs.Pairs.{turn_number}
-use Rattle.sx_assemble.specs.Sectioning.{piece_signature}
+use Rattle.sx_pairs.specs.declared.turn.NodePair.{NodePair}
+use Rattle.sx_pairs.specs.declared.turn.Turn.{Turn}
+use Rattle.sx_pairs.specs.Pairs.{turn_number}
+use Rattle.sx_parts.specs.Sectioning.{piece_signature}
 use Rattle.sx_assemble.proofs.HollowDistDumps.{turns_are}
-use Rattle.sx_assemble.proofs.KeyPairs.{least_of}
-use Rattle.sx_assemble.proofs.KeyParts.{map_map}
+use Rattle.sx_parts.proofs.KeyPairs.{least_of}
+use Rattle.sx_parts.proofs.KeyParts.{map_map}
 use Rattle.sx_assemble.proofs.hollow_dist.turns_function.Goals as goal
 
 pub build_least-requires-clause-numbers : goal.build_least-requires-clause-numbers

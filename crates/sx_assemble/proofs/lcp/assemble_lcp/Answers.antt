@@ -2,7 +2,7 @@ use Rattle.std.proofs.Common.{refl, ap, arith}
 use Rattle.sx_spec_kinds.specs.declared.Kind.{Kind}
 use Rattle.sx_spec_kinds.specs.declared.Kind.TheVariants.{Lcp}
 use Rattle.sx_spec.specs.Reply.{member_numbers}
-use Rattle.sx_assemble.proofs.BuiltDumps.{all_ranked}
+use Rattle.sx_parts.proofs.BuiltDumps.{all_ranked}
 use Rattle.sx_assemble.proofs.LcpDumps.{block_sources, lcp_parts_same}
 use Rattle.sx_assemble.proofs.lcp.assemble_lcp.Goals as goal
 

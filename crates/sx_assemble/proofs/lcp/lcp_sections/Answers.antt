@@ -8,15 +8,15 @@ use Rattle.sx_spec_kinds.specs.Lcp.{prefix_lens}
 use Rattle.sx_spec_kinds.specs.Pairs.{lengths_pairs}
 use Rattle.sx_spec.specs.declared.Signature.{Signature}
 use Rattle.sx_spec.specs.Parts.{parts_of}
-use Rattle.sx_assemble.specs.Assembling.{key_signature}
-use Rattle.sx_assemble.specs.Ranking.{length_numbers}
-use Rattle.sx_assemble.specs.Sectioning.{AreKindSections}
-use Rattle.sx_assemble.proofs.BuiltDumps.{few_lines}
+use Rattle.sx_parts.specs.Assembling.{key_signature}
+use Rattle.sx_parts.specs.Ranking.{length_numbers}
+use Rattle.sx_parts.specs.Sectioning.{AreKindSections}
+use Rattle.sx_parts.proofs.BuiltDumps.{few_lines}
 use Rattle.sx_assemble.proofs.CodePairs.{lens_count}
-use Rattle.sx_assemble.proofs.KeyPairs.{least_of, lengths_are}
+use Rattle.sx_parts.proofs.KeyPairs.{least_of, lengths_are}
 use Rattle.sx_assemble.proofs.LcpDumps.{lcp_done, lcp_stops_first, lcp_stops_second}
-use Rattle.sx_assemble.proofs.PartLists.{stops_out}
-use Rattle.sx_assemble.proofs.SignedEnds.{all_sections, few_signatures}
+use Rattle.sx_parts.proofs.PartLists.{stops_out}
+use Rattle.sx_parts.proofs.SignedEnds.{all_sections, few_signatures}
 use Rattle.sx_assemble.proofs.lcp.lcp_sections.Goals as goal
 
 pub lengths_function-requires-clause-numbers : goal.lengths_function-requires-clause-numbers

@@ -3,7 +3,7 @@ use Rattle.std.specs.List.{enumerate_from}
 use Rattle.std.proofs.lemmas.List.{length-map}
 use Rattle.std.proofs.lemmas.List.FromFn.{length-enumerate_from}
 use Rattle.sx_spec_kinds.specs.Blocks.{block_size}
-use Rattle.sx_assemble.specs.Ranking.{length_numbers}
+use Rattle.sx_parts.specs.Ranking.{length_numbers}
 use Rattle.sx_assemble.proofs.lcp.lengths_function.Goals as goal
 
 pub build_least-requires-clause-numbers : goal.build_least-requires-clause-numbers

@@ -6,7 +6,7 @@ use Rattle.sx_spec_strings.specs.Bits.{key_bits}
 use Rattle.sx_spec_kinds.specs.Blocks.{block_size}
 use Rattle.sx_spec_kinds.specs.Pairs.{prefixes_pairs}
 use Rattle.sx_spec.specs.declared.Signature.{Signature}
-use Rattle.sx_assemble.proofs.KeyPairs.{least_of, prefixes_are, prefixes_few}
+use Rattle.sx_parts.proofs.KeyPairs.{least_of, prefixes_are, prefixes_few}
 use Rattle.sx_assemble.proofs.lcp.prefixes_function.Goals as goal
 
 pub overflow_cast-len : goal.overflow_cast-len

@@ -2,7 +2,7 @@ use Rattle.std.proofs.Common.{refl, ap, arith}
 use Rattle.sx_spec_kinds.specs.declared.Kind.{Kind}
 use Rattle.sx_spec_kinds.specs.declared.Kind.TheVariants.{Lcp2}
 use Rattle.sx_spec.specs.Reply.{member_numbers}
-use Rattle.sx_assemble.proofs.BuiltDumps.{all_ranked}
+use Rattle.sx_parts.proofs.BuiltDumps.{all_ranked}
 use Rattle.sx_assemble.proofs.Lcp2Dumps.{lcp2_parts_same}
 use Rattle.sx_assemble.proofs.LcpDumps.{block_sources}
 use Rattle.sx_assemble.proofs.lcp2.assemble_lcp2.Goals as goal

@@ -2,9 +2,9 @@ use Rattle.std.proofs.Common.{length, subst, sym, inr, Result, MatchResult}
 use Rattle.std.proofs.lemmas.Result.{err_from_is_err_and}
 use Rattle.sx_spec_kinds.specs.Blocks.{block_size}
 use Rattle.sx_assemble.specs.KeyFunctions.{AreKeyFunctions, StopsKeyFunctions}
-use Rattle.sx_assemble.specs.Ranking.{offset_numbers}
+use Rattle.sx_parts.specs.Ranking.{offset_numbers}
 use Rattle.sx_assemble.specs.declared.lcp2.KeyFunctions.{KeyFunctions}
-use Rattle.sx_assemble.specs.declared.parts.Stop.{Stop}
+use Rattle.sx_parts.specs.declared.parts.Stop.{Stop}
 use Rattle.sx_assemble.proofs.lcp2.key_functions.Goals as goal
 
 pub returns-in_err-codes-in-Gov3 : goal.returns-in_err-codes-in-Gov3

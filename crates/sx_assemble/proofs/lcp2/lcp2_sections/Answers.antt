@@ -9,15 +9,15 @@ use Rattle.sx_spec_kinds.specs.TwoStep.{two_step_of, width_of}
 use Rattle.sx_spec.specs.declared.Signature.{Signature}
 use Rattle.sx_spec.specs.Parts.{parts_of}
 use Rattle.sx_lcp.specs.TwoSteps.{two_step_as}
-use Rattle.sx_assemble.specs.Assembling.{key_signature}
-use Rattle.sx_assemble.specs.Ranking.{offset_numbers}
-use Rattle.sx_assemble.specs.Sectioning.{AreKindSections}
-use Rattle.sx_assemble.proofs.BuiltDumps.{few_lines}
+use Rattle.sx_parts.specs.Assembling.{key_signature}
+use Rattle.sx_parts.specs.Ranking.{offset_numbers}
+use Rattle.sx_parts.specs.Sectioning.{AreKindSections}
+use Rattle.sx_parts.proofs.BuiltDumps.{few_lines}
 use Rattle.sx_assemble.proofs.CodePairs.{built_codes_count, built_codes_fit, built_escaped_count, built_escaped_within, built_table_count, built_table_fits, lens_count}
-use Rattle.sx_assemble.proofs.KeyPairs.{least_of, offsets_are}
+use Rattle.sx_parts.proofs.KeyPairs.{least_of, offsets_are}
 use Rattle.sx_assemble.proofs.Lcp2Dumps.{bits_narrow, codes_of_keys, codes_part_narrow, escaped_of_keys, given_codes, given_escaped, lcp2_done, lcp2_stops_first, lcp2_stops_second, lcp2_stops_third, lcp2_stops_fourth, lens_many, sigs_count, table_is, width_narrow}
-use Rattle.sx_assemble.proofs.PartLists.{stops_out}
-use Rattle.sx_assemble.proofs.SignedEnds.{all_sections, few_signatures}
+use Rattle.sx_parts.proofs.PartLists.{stops_out}
+use Rattle.sx_parts.proofs.SignedEnds.{all_sections, few_signatures}
 use Rattle.sx_assemble.proofs.lcp2.lcp2_sections.Goals as goal
 
 pub two_step-requires : goal.two_step-requires

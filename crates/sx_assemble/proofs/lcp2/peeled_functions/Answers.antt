@@ -4,8 +4,8 @@ use Rattle.sx_spec.specs.declared.Method.TheVariants.{Mwhc}
 use Rattle.sx_static.specs.Answer.{witness_numbers}
 use Rattle.sx_static.specs.Both.{AreBoth}
 use Rattle.sx_assemble.specs.KeyFunctions.{StopsKeyFunctions}
-use Rattle.sx_assemble.specs.Ranking.{length_numbers, offset_numbers}
-use Rattle.sx_assemble.proofs.KeyNumbers.{first_cause, first_done, second_done, values_fit, values_many}
+use Rattle.sx_parts.specs.Ranking.{length_numbers, offset_numbers}
+use Rattle.sx_parts.proofs.KeyNumbers.{first_cause, first_done, second_done, values_fit, values_many}
 use Rattle.sx_assemble.proofs.lcp2.peeled_functions.Goals as goal
 
 pub build_both-requires-clause-values : goal.build_both-requires-clause-values

@@ -10,6 +10,7 @@ ranked-requires g c =
       no_method = λ e. let never : true ≡ false = e in absurd cc;
       buckets = omega arith;
       no_buckets = λ e. let never : true ≡ false = e in absurd cc;
-      handles = refl;
+      handles = omega arith;
+      no_handles = λ e. refl;
       bits = omega arith;
     })

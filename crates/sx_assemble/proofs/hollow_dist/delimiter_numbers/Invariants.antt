@@ -1,6 +1,0 @@
-use Rattle.std.proofs.Common.{◌≡◌}
-use Rattle.sx_assemble.proofs.HollowDistDumps.{last_numbers}
-use Rattle.sx_assemble.proofs.hollow_dist.delimiter_numbers.Given as goal
-
-abbrev pub invariant-loop-block : goal.invariant-loop-block
-invariant-loop-block l = l.numbers.items ≡ last_numbers l.size l.block

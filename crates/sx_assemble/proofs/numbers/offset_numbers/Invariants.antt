@@ -1,7 +1,0 @@
-use Rattle.std.proofs.Common.{◌≡◌}
-use Rattle.sx_spec_kinds.specs.Blocks.{block_size}
-use Rattle.sx_assemble.specs.Ranking.{offset_numbers}
-use Rattle.sx_assemble.proofs.numbers.offset_numbers.Given as goal
-
-abbrev pub invariant-loop-i : goal.invariant-loop-i
-invariant-loop-i l = l.numbers.items ≡ offset_numbers (block_size l.log_bucket) l.i

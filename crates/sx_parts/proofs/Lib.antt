@@ -1,0 +1,11 @@
+pub mod Cells
+pub mod BuiltDumps
+pub mod Layouts
+pub mod PartLists
+pub mod KeyPairs
+pub mod KeyParts
+pub mod KeySizes
+pub mod NarrowValues
+pub mod SignedEnds
+pub mod Signing
+pub mod KeyNumbers

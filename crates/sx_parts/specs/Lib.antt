@@ -1,0 +1,3 @@
+pub mod Assembling
+pub mod Ranking
+pub mod Sectioning
