@@ -1,3 +1,4 @@
+pub mod CorrectionWords
 pub mod Pieces
 pub mod Openings
 pub mod Replies
@@ -8,3 +9,4 @@ pub mod ShownPlaces
 pub mod Tables
 pub mod Texts
 pub mod WordPieces
+pub mod ZfastSections

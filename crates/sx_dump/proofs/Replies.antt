@@ -1,20 +1,22 @@
 -- What a dump replies.
-use Rattle.std.proofs.Common.{◌≡◌, ℕ, Bool, true, false, refl, ◌+◌, List, length, Option, Some, None, sym, ap, ◌∙◌}
+use Rattle.std.proofs.Common.{◌≡◌, ℕ, Bool, true, false, refl, ◌+◌, ◌*◌, List, length, Option, Some, None, sym, ap, ◌∙◌}
 use Rattle.std.specs.Prelude.{◌==◌, if◌then◌else◌}
 use Rattle.std.proofs.lemmas.Bool.{eq-eqb, ne_eqb}
 use Rattle.sx_fields.specs.declared.bank.WordBank.{Ghosts}
 use Rattle.sx_fields.specs.declared.packed.Packed.{Packed}
 use Rattle.sx_spec_kinds.specs.Blocks.{block_size}
 use Rattle.sx_spec_kinds.specs.declared.Kind.{Kind}
-use Rattle.sx_spec_kinds.specs.declared.Kind.TheVariants.{Func, Lcp, Lcp2, Hollow, HollowDist}
+use Rattle.sx_spec_kinds.specs.declared.Kind.TheVariants.{Func, Lcp, Lcp2, Hollow, HollowDist, Zfast}
 use Rattle.sx_spec_kinds.specs.Hollow.{walk_of}
 use Rattle.sx_spec_kinds.specs.HollowDistributor.{hollow_dist_reply}
 use Rattle.sx_spec_kinds.specs.Lcp.{lcp_reply, lcp2_reply}
 use Rattle.sx_spec_kinds.specs.Reads.{reads_of, unsigned_reads}
+use Rattle.sx_spec_kinds.specs.Zfast.{zfast_reply}
+use Rattle.sx_spec_strings.specs.Numbers.{binary_digits}
 use Rattle.sx_spec_strings.specs.Bits.{Bits, tagged}
 use Rattle.sx_spec.specs.declared.Signature.{Signature}
 use Rattle.sx_spec.specs.Layout.{Dump, Header as HeaderOf, header_of}
-use Rattle.sx_spec.specs.Reply.{answer_of, gaps, kept_numbers, kind_reply, section_at, sign, signatures_in, string_reply}
+use Rattle.sx_spec.specs.Reply.{answer_of, block_beside, gaps, kept_numbers, kind_reply, nodes_in, section_at, sign, signatures_in, string_reply, top_bits}
 use Rattle.sx_spec.specs.Signature.{signature}
 use Rattle.sx_spec.specs.StaticFunction.{value_of}
 use Rattle.sx_static.specs.declared.view.FuncView.{FuncView}
@@ -23,14 +25,16 @@ use Rattle.sx_signed.proofs.Lookups.{none_signed, signed_by_signature}
 use Rattle.sx_lcp.specs.declared.lcp.LcpView.{LcpView}
 use Rattle.sx_lcp.specs.declared.lcp2.Lcp2View.{Lcp2View}
 use Rattle.sx_hollow.specs.declared.view.HollowView.{HollowView}
-use Rattle.sx_hollow.specs.Dist.{turns_by}
-use Rattle.sx_lcp.specs.Views.{answers_by, function_read}
+use Rattle.sx_static.specs.Reading.{answers_by, function_read}
 use Rattle.sx_sections.specs.declared.header.Header.{Header}
 use Rattle.sx_sections.specs.declared.place.Place.{Place}
 use Rattle.sx_dump.specs.declared.hollow_dist.HollowDistributor.{HollowDistributor}
+use Rattle.sx_dump.specs.declared.zfast.ZfastDistributor.{ZfastDistributor}
+use Rattle.sx_zfast.specs.Maps.{map_read}
+use Rattle.sx_zfast.specs.Views.{corrected_by, nodes_read}
 use Rattle.sx_dump.specs.Opening.{IsOpened, dump_in}
 use Rattle.sx_dump.specs.Replying.{kept_reads, place_kept, string_reads}
-use Rattle.sx_dump.specs.Viewing.{IsFuncView, IsHollowDistView, IsHollowView, IsLcp2View, IsLcpView, ReadsFunction, ReadsKept, numbers_by, sums_by}
+use Rattle.sx_dump.specs.Viewing.{IsFuncView, IsHollowDistView, IsHollowView, IsLcp2View, IsLcpView, IsZfastView, ReadsFunction, ReadsKept, numbers_by, sums_by}
 
 -- ---- by what is kept
 
@@ -114,11 +118,32 @@ module _ (words : List ℕ) (h : Header) (places : List Place) (is : IsOpened wo
 
   pub hollow_dist_place_is : {B : Type 0} {bank_of : Ghosts B} (v : HollowDistributor B bank_of) → IsHollowDistView words v → (bits : Bits)
       → hollow_dist_reply v.keys (block_size v.log_bucket) (gaps (sums_by v.blocks.left)) (gaps (sums_by v.blocks.skip)) (answers_by v.offsets h.seed h.plan.sig_bits)
-      (turns_by v.blocks.turns h.seed h.plan.sig_bits) v.blocks.delimiters bits
+      (answers_by v.blocks.turns h.seed h.plan.sig_bits) v.blocks.delimiters bits
       ≡ kind_reply HollowDist (dump_in words) bits
   hollow_dist_place_is v view bits =
       λ j. hollow_dist_reply (view.keys j) (block_size (view.bucket j)) (gaps (view.lefts.numbers j)) (gaps (view.skips.numbers j)) (answers_are 0 v.offsets view.offsets j)
       (answers_are 3 v.blocks.turns view.turns j) (view.delimiters j) bits
+
+  pub zfast_place_is : {B : Type 0} {bank_of : Ghosts B} (v : ZfastDistributor B bank_of) → IsZfastView words v → (bits : Bits)
+      → zfast_reply v.keys (block_size v.log_bucket) (answers_by v.offsets h.seed h.plan.sig_bits) v.blocks.delimiters (nodes_read v.blocks)
+      (map_read v.blocks.map h.seed h.plan.sig_bits) (answers_by v.blocks.codes h.seed h.plan.sig_bits) (corrected_by v.blocks.corrections h.seed h.plan.sig_bits) bits
+      ≡ kind_reply Zfast (dump_in words) bits
+  zfast_place_is v view bits =
+      λ j. zfast_reply (view.keys j) (block_size (view.bucket j)) (answers_are 0 v.offsets view.offsets j) (view.delimiters j)
+      (nodes_in (view.extents.numbers j) (view.firsts.numbers j) (view.middles.numbers j) (view.afters.numbers j))
+      (record {
+        handles = answers_are 5 v.blocks.map.func view.handles j;
+        mark_of = λ y. top_bits (view.wide j) (sign (sym is.header j) y);
+        marks = view.marks.numbers j;
+      })
+      (answers_are 7 v.blocks.codes view.codes j) (λ y. block_beside (view.corrections.signatures j) (view.corrections.blocks.numbers j) (sign (sym is.header j) y)) bits
+
+-- in so many reads, by the corrections that are read
+pub zfast_reads_are : (words : List ℕ) {B : Type 0} {bank_of : Ghosts B} (v : ZfastDistributor B bank_of) → IsZfastView words v → (bits : Bits)
+    → string_reads (dump_in words) bits ≡ 12 * binary_digits (length bits) + 3 * binary_digits v.blocks.corrections.count + 32 + kept_reads (dump_in words)
+zfast_reads_are words v view bits =
+    reads_are words Zfast view.kind bits
+    ∙ ap (λ (n : ℕ). unsigned_reads Zfast (length bits) n + kept_reads (dump_in words)) (sym view.corrections.count)
 
 -- ---- by hollow tries
 

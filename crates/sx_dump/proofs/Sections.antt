@@ -12,19 +12,21 @@ use Rattle.sx_ef.specs.declared.section.Sums.{Sums as SumsPlace}
 use Rattle.sx_fields.specs.declared.section.Section.{Section as Packed}
 use Rattle.sx_fields.proofs.Places.{length-fields}
 use Rattle.sx_spec_kinds.specs.declared.Kind.{Kind}
-use Rattle.sx_spec_kinds.specs.declared.Kind.TheVariants.{Func, Lcp, Lcp2, Hollow, HollowDist}
+use Rattle.sx_spec_kinds.specs.declared.Kind.TheVariants.{Func, Lcp, Lcp2, Hollow, HollowDist, Zfast}
 use Rattle.sx_spec_strings.specs.First.{first_failing}
-use Rattle.sx_spec.specs.Kinds.{bucket_count, delimiter_count, inner_count}
-use Rattle.sx_spec.specs.Layout.{Header as HeaderOf, Section, SectionRule, Slot, are_sums, corrections_of, corrections_section, exact_list, function_checks, function_of, function_section, header_of, item_words, kind_slots, last_section, list_checks, list_of, list_section, section_checks, section_of, section_size, section_width, sections_in, slots, sums_checks, sums_low, sums_numbers, sums_of, sums_section, sums_upper, sums_upper_bits, u32_max}
-use Rattle.sx_spec.specs.Reply.{function_in, kept_numbers, numbers_in, section_at as section_of_dump}
+use Rattle.sx_spec.specs.Kinds.{bucket_count, delimiter_count, handle_count, inner_count}
+use Rattle.sx_spec.specs.Layout.{Header as HeaderOf, Section, SectionRule, Slot, are_sums, corrections_of, corrections_section, exact_list, function_checks, function_of, function_section, header_of, item_words, kind_slots, last_section, list_checks, list_of, list_section, section_checks, section_count, section_of, section_size, section_width, sections_in, slots, sums_checks, sums_low, sums_numbers, sums_of, sums_section, sums_upper, sums_upper_bits, u32_max}
+use Rattle.sx_spec.specs.Reply.{function_in, kept_numbers, numbers_in, section_at as section_of_dump, signatures_in}
 use Rattle.sx_spec_strings.proofs.Lists.{all_true}
 use Rattle.sx_static.specs.Viewing.{viewed}
 use Rattle.sx_spec.specs.Fields.{fields, low_width, ones_of, words_number}
 use Rattle.sx_sections.specs.declared.header.Header.{Header}
+use Rattle.sx_sections.specs.declared.place.CorrectionsPlace.{CorrectionsPlace}
 use Rattle.sx_sections.specs.declared.place.Place.{Place}
 use Rattle.sx_sections.specs.declared.place.Place.TheVariants.{Function, List as ListPlace, Sums, Corrections}
 use Rattle.sx_sections.specs.Places.{section_at}
-use Rattle.sx_dump.specs.Opening.{IsFunctionAt, IsListAt, IsOpened, IsSumsAt, dump_in, sections_read}
+use Rattle.sx_sig.specs.SignatureWords.{signatures_at}
+use Rattle.sx_dump.specs.Opening.{IsCorrectionsAt, IsFunctionAt, IsListAt, IsOpened, IsSumsAt, dump_in, sections_read}
 use Rattle.sx_dump.specs.Showing.{sums_read}
 
 -- ---- lists
@@ -157,6 +159,28 @@ fit_at P (s ∷ rest) before (x ∷ found) zero slot d fit there gives =
     gives before x (subst (λ (t : Slot). FitsRule (t.rule before) x) same fit.0)
 fit_at P (s ∷ rest) before (x ∷ found) (suc i) slot d fit there gives = fit_at P rest (before ++ x ∷ []) found i slot d fit.1 there gives
 
+-- the first of them
+fit_first : (P : Section → Type 0) (left : List Slot) (before found : List Section) (slot : Slot) (d : Section) → FitSlots left before found → slice_get left 0 ≡ Some slot
+    → ((x : Section) → FitsRule (slot.rule before) x → P x) → P (slice_index_or found 0 d)
+fit_first P [] before found slot d fit there gives = absurd cc
+fit_first P (s ∷ rest) before [] slot d fit there gives = absurd fit
+fit_first P (s ∷ rest) before (x ∷ found) slot d fit there gives =
+    let same : s ≡ slot = cc in
+    gives x (subst (λ (t : Slot). FitsRule (t.rule before) x) same fit.0)
+
+-- the one behind slot i, where the rule goes by the section before it
+fit_next : (P : Section → Section → Type 0) (left : List Slot) (before found : List Section) (i : ℕ) (slot : Slot) (d : Section) → FitSlots left before found → slice_get left (suc i) ≡ Some slot
+    → ((b : List Section) (y x : Section) → FitsRule (slot.rule (b ++ y ∷ [])) x → P y x) → P (slice_index_or found i d) (slice_index_or found (suc i) d)
+fit_next P [] before found i slot d fit there gives = absurd cc
+fit_next P (s ∷ rest) before [] i slot d fit there gives = absurd fit
+fit_next P (s ∷ rest) before (y ∷ found) zero slot d fit there gives = fit_first (P y) rest (before ++ y ∷ []) found slot d fit.1 there (gives before y)
+fit_next P (s ∷ rest) before (y ∷ found) (suc i) slot d fit there gives = fit_next P rest (before ++ y ∷ []) found i slot d fit.1 there gives
+
+-- the section before it is the last one
+last_put : (o : Option Section) (b : List Section) (y : Section) → last_or o (b ++ y ∷ []) ≡ Some y
+last_put o [] y = refl
+last_put o (x ∷ b) y = last_put (Some x) b y
+
 -- ---- a section by its sort
 
 -- a function of a count and a width between two
@@ -193,6 +217,30 @@ list_width count width (function_section f) fit = absurd fit
 list_width count width (list_section w items) fit = let low = fit.1.0 in let high = fit.1.1 in omega arith
 list_width count width (sums_section items) fit = absurd fit
 list_width count width (corrections_section sigs) fit = absurd fit
+
+-- the numbers of the list in a section
+list_bounds : (least most low high : ℕ) (x : Section) → FitsRule (list_of least most low high) x → IsBetween least most (length (numbers_in x)) × IsBetween low high (section_width x)
+list_bounds least most low high (function_section f) fit = absurd fit
+list_bounds least most low high (list_section width items) fit = fit
+list_bounds least most low high (sums_section items) fit = absurd fit
+list_bounds least most low high (corrections_section sigs) fit = absurd fit
+
+-- signatures, with as many numbers beside them
+abbrev pub AreCorrections : Section → Section → Type 0
+AreCorrections (corrections_section sigs) x = FitsRule (list_of (length sigs) (length sigs) 0 32) x
+AreCorrections _ x = ⊥
+
+corrections_beside : (y x : Section) → AreCorrections y x → FitsRule (list_of (length (signatures_in y)) (length (signatures_in y)) 0 32) x
+corrections_beside (function_section f) x fit = absurd fit
+corrections_beside (list_section width items) x fit = absurd fit
+corrections_beside (sums_section items) x fit = absurd fit
+corrections_beside (corrections_section sigs) x fit = fit
+
+are_corrections : (most : ℕ) (y x : Section) → FitsRule (corrections_of most) y → FitsRule (list_of (section_count y) (section_count y) 0 32) x → AreCorrections y x
+are_corrections most (function_section f) x fit beside = absurd fit
+are_corrections most (list_section width items) x fit beside = absurd fit
+are_corrections most (sums_section items) x fit beside = absurd fit
+are_corrections most (corrections_section sigs) x fit beside = beside
 
 -- the numbers of the function in a section
 function_bounds : (least most low high : ℕ) (x : Section) → IsFunctionOf least most low high x → IsBetween least most (function_in x).pairs × IsBetween low high (function_in x).width
@@ -234,6 +282,17 @@ sums_place words (Sums s ∷ places) zero count some fit = record { section = s;
 sums_place words (Corrections s ∷ places) zero count some fit = absurd fit
 sums_place words (p ∷ places) (suc i) count some fit =
     let later = sums_place words places i count some fit in
+    record { section = later.section; there = later.there }
+
+-- where signatures stand
+corrections_place : (words : List ℕ) (places : List Place) (i : ℕ) (x : Section) → AreCorrections (slice_index_or (map (section_at words) places) i (sums_section [])) x → IsCorrectionsAt places i
+corrections_place words [] i x fit = absurd fit
+corrections_place words (Function s ∷ places) zero x fit = absurd fit
+corrections_place words (ListPlace s ∷ places) zero x fit = absurd fit
+corrections_place words (Sums s ∷ places) zero x fit = absurd fit
+corrections_place words (Corrections s ∷ places) zero x fit = record { section = s; there = refl }
+corrections_place words (p ∷ places) (suc i) x fit =
+    let later = corrections_place words places i x fit in
     record { section = later.section; there = later.there }
 
 -- what was read of a place
@@ -286,6 +345,10 @@ module _ (words : List ℕ) (h : Header) (places : List Place) (is : IsOpened wo
   -- the numbers of an Elias-Fano list there are those of section i
   pub sums_are : (i : ℕ) (s : SumsPlace) → slice_get places i ≡ Some (Sums s) → sums_read words s ≡ numbers_in (section_of_dump (dump_in words) i)
   sums_are i s there = sym (ap numbers_in (section_is i (Sums s) there))
+
+  -- the signatures there are those of section i
+  pub signatures_are : (i : ℕ) (s : CorrectionsPlace) → slice_get places i ≡ Some (Corrections s) → signatures_at words s.body s.count ≡ signatures_in (section_of_dump (dump_in words) i)
+  signatures_are i s there = sym (ap signatures_in (section_is i (Corrections s) there))
 
   -- the kind is that of the words
   pub kind_is : (kind : Kind) → h.plan.kind ≡ kind → head.plan.kind ≡ kind
@@ -356,6 +419,58 @@ module _ (words : List ℕ) (h : Header) (places : List Place) (is : IsOpened wo
   pub hollow_dist_turns : head.plan.kind ≡ HollowDist → IsFunctionOf 0 (min (head.keys + delimiter_count head.plan head.keys) u32_max) 0 32 (slice_index_or found 3 (sums_section []))
   hollow_dist_turns same = function_in_slot HollowDist 3 (codes "turns") 0 (min (head.keys + delimiter_count head.plan head.keys) u32_max) 0 32 same refl
 
+  -- a list of so many numbers
+  list_in_slot : (i : ℕ) (name : List ℕ) (count low high : ℕ) → head.plan.kind ≡ Zfast
+      → slice_get (kind_slots Zfast head) i ≡ Some (record { name = name; rule = λ _. list_of count count low high })
+      → FitsRule (list_of count count low high) (slice_index_or found i (sums_section []))
+  list_in_slot i name count low high same there =
+      slot_gives (FitsRule (list_of count count low high)) Zfast i (record { name = name; rule = λ _. list_of count count low high }) same there (λ b x fit. fit)
+
+  pub zfast_offsets : head.plan.kind ≡ Zfast → IsFunctionOf head.keys head.keys 0 32 (slice_index_or found 0 (sums_section []))
+  zfast_offsets same = function_in_slot Zfast 0 (codes "offsets") head.keys head.keys 0 32 same refl
+
+  pub zfast_extents : head.plan.kind ≡ Zfast → FitsRule (list_of (inner_count head.plan head.keys) (inner_count head.plan head.keys) 0 32) (slice_index_or found 1 (sums_section []))
+  zfast_extents same = list_in_slot 1 (codes "extents") (inner_count head.plan head.keys) 0 32 same refl
+
+  pub zfast_firsts : head.plan.kind ≡ Zfast → FitsRule (list_of (inner_count head.plan head.keys) (inner_count head.plan head.keys) 0 32) (slice_index_or found 2 (sums_section []))
+  zfast_firsts same = list_in_slot 2 (codes "firsts") (inner_count head.plan head.keys) 0 32 same refl
+
+  pub zfast_middles : head.plan.kind ≡ Zfast → FitsRule (list_of (inner_count head.plan head.keys) (inner_count head.plan head.keys) 0 32) (slice_index_or found 3 (sums_section []))
+  zfast_middles same = list_in_slot 3 (codes "middles") (inner_count head.plan head.keys) 0 32 same refl
+
+  pub zfast_afters : head.plan.kind ≡ Zfast → FitsRule (list_of (inner_count head.plan head.keys) (inner_count head.plan head.keys) 0 32) (slice_index_or found 4 (sums_section []))
+  zfast_afters same = list_in_slot 4 (codes "afters") (inner_count head.plan head.keys) 0 32 same refl
+
+  pub zfast_handles : head.plan.kind ≡ Zfast → IsFunctionOf (handle_count head.plan head.keys) (handle_count head.plan head.keys) 0 32 (slice_index_or found 5 (sums_section []))
+  zfast_handles same = function_in_slot Zfast 5 (codes "handles") (handle_count head.plan head.keys) (handle_count head.plan head.keys) 0 32 same refl
+
+  pub zfast_marks : head.plan.kind ≡ Zfast → IsListOf (handle_count head.plan head.keys) head.plan.handle_bits (slice_index_or found 6 (sums_section []))
+  zfast_marks same = list_in_slot 6 (codes "marks") (handle_count head.plan head.keys) head.plan.handle_bits head.plan.handle_bits same refl
+
+  pub zfast_codes : head.plan.kind ≡ Zfast → IsFunctionOf head.keys head.keys 0 32 (slice_index_or found 7 (sums_section []))
+  zfast_codes same = function_in_slot Zfast 7 (codes "codes") head.keys head.keys 0 32 same refl
+
+  zfast_signatures : head.plan.kind ≡ Zfast → FitsRule (corrections_of head.keys) (slice_index_or found 8 (sums_section []))
+  zfast_signatures same =
+      slot_gives (FitsRule (corrections_of head.keys)) Zfast 8 (record { name = codes "corrections"; rule = λ _. corrections_of head.keys }) same refl (λ b x fit. fit)
+
+  -- the list of blocks has as many numbers as the section before it has signatures
+  abbrev blocks_slot : Slot
+  blocks_slot = record { name = codes "blocks"; rule = λ before. let m = section_count (last_section before) in list_of m m 0 32 }
+
+  zfast_blocks : head.plan.kind ≡ Zfast
+      → FitsRule (list_of (section_count (slice_index_or found 8 (sums_section []))) (section_count (slice_index_or found 8 (sums_section []))) 0 32) (slice_index_or found 9 (sums_section []))
+  zfast_blocks same =
+      let kept : List Slot = (if head.plan.signed == 0 then [] else exact_list (codes "signatures") head.keys head.plan.signed head.plan.signed ∷ []) in
+      let here : slice_get (kind_slots head.plan.kind head) 9 ≡ Some blocks_slot = ap (λ (k : Kind). slice_get (kind_slots k head) 9) same in
+      fit_next (λ (y x : Section). FitsRule (list_of (section_count y) (section_count y) 0 32) x) (slots head) [] found 8 blocks_slot (sums_section []) sections_fit
+      (get_front (kind_slots head.plan.kind head) kept 9 blocks_slot here)
+      (λ b y x fit. subst (λ (o : Option Section). FitsRule (list_of (section_count (unwrap_or o (sums_section []))) (section_count (unwrap_or o (sums_section []))) 0 32) x) (last_put None b y) fit)
+
+  pub zfast_corrections : head.plan.kind ≡ Zfast → AreCorrections (slice_index_or found 8 (sums_section [])) (slice_index_or found 9 (sums_section []))
+  zfast_corrections same =
+      are_corrections head.keys (slice_index_or found 8 (sums_section [])) (slice_index_or found 9 (sums_section [])) (zfast_signatures same) (zfast_blocks same)
+
   -- ---- what such a row says
 
   -- where its function stands
@@ -383,6 +498,40 @@ module _ (words : List ℕ) (h : Header) (places : List Place) (is : IsOpened wo
       let same : section_of_dump (dump_in words) i ≡ slice_index_or found i (sums_section []) = ap (λ (xs : List Section). slice_index_or xs i (sums_section [])) sections_are in
       subst (λ (x : Section). IsBetween least most (function_in x).pairs × IsBetween low high (function_in x).width) (sym same)
       (function_bounds least most low high (slice_index_or found i (sums_section [])) row)
+
+  -- where a list of so many numbers stands
+  pub list_of_there : (i least most low high : ℕ) → FitsRule (list_of least most low high) (slice_index_or found i (sums_section [])) → IsListAt places i
+  list_of_there i least most low high row = list_there i high (narrow_list least most low high (slice_index_or found i (sums_section [])) row)
+
+  -- how many they are, and how wide
+  pub list_bounds_there : (i least most low high : ℕ) → FitsRule (list_of least most low high) (slice_index_or found i (sums_section []))
+      → IsBetween least most (length (numbers_in (section_of_dump (dump_in words) i))) × IsBetween low high (section_width (section_of_dump (dump_in words) i))
+  list_bounds_there i least most low high row =
+      let same : section_of_dump (dump_in words) i ≡ slice_index_or found i (sums_section []) = ap (λ (xs : List Section). slice_index_or xs i (sums_section [])) sections_are in
+      subst (λ (x : Section). IsBetween least most (length (numbers_in x)) × IsBetween low high (section_width x)) (sym same)
+      (list_bounds least most low high (slice_index_or found i (sums_section [])) row)
+
+  -- where signatures stand
+  pub corrections_there : (i : ℕ) → AreCorrections (slice_index_or found i (sums_section [])) (slice_index_or found (suc i) (sums_section [])) → IsCorrectionsAt places i
+  corrections_there i row = corrections_place words places i (slice_index_or found (suc i) (sums_section [])) row
+
+  -- where the numbers beside them do
+  pub beside_there : (i : ℕ) → AreCorrections (slice_index_or found i (sums_section [])) (slice_index_or found (suc i) (sums_section [])) → IsListAt places (suc i)
+  beside_there i row =
+      let y = slice_index_or found i (sums_section []) in
+      let x = slice_index_or found (suc i) (sums_section []) in
+      list_of_there (suc i) (length (signatures_in y)) (length (signatures_in y)) 0 32 (corrections_beside y x row)
+
+  -- which are as many
+  pub are_beside : (i : ℕ) → AreCorrections (slice_index_or found i (sums_section [])) (slice_index_or found (suc i) (sums_section []))
+      → length (numbers_in (section_of_dump (dump_in words) (suc i))) ≡ length (signatures_in (section_of_dump (dump_in words) i))
+  are_beside i row =
+      let y = slice_index_or found i (sums_section []) in
+      let x = slice_index_or found (suc i) (sums_section []) in
+      let same : section_of_dump (dump_in words) i ≡ y = ap (λ (xs : List Section). slice_index_or xs i (sums_section [])) sections_are in
+      let bounds = list_bounds_there (suc i) (length (signatures_in y)) (length (signatures_in y)) 0 32 (corrections_beside y x row) in
+      let many : length (numbers_in (section_of_dump (dump_in words) (suc i))) ≡ length (signatures_in y) = omega (arith, bounds.0.0, bounds.0.1) in
+      many ∙ sym (ap (λ (z : Section). length (signatures_in z)) same)
 
   -- ---- the signatures that are kept
 

@@ -2,6 +2,7 @@
 use Rattle.std.proofs.Common.{◌≡◌, ℕ, List, [], ◌++◌, codes, length, map, refl, sym, ap, ◌∙◌, append_assoc}
 use Rattle.std.specs.Prelude.{flat_map, zip}
 use Rattle.std.specs.Result.{result_unwrap_or}
+use Rattle.sx_spec.specs.declared.Signature.{Signature}
 use Rattle.sx_spec.specs.Fields.{below_of}
 use Rattle.sx_spec.specs.Layout.{slots}
 use Rattle.sx_spec.specs.Show.{dump_text, section_text}
@@ -10,11 +11,11 @@ use Rattle.sx_sections.specs.declared.header.Header.{Header as HeaderBy}
 use Rattle.sx_sections.specs.declared.name.SectionName.{SectionName}
 use Rattle.sx_sections.specs.declared.place.Place.{Place}
 use Rattle.sx_sections.specs.Headers.{header_as}
-use Rattle.sx_sections.specs.Lines.{function_line, header_lines, list_line, sums_line}
+use Rattle.sx_sections.specs.Lines.{function_line, header_lines, list_line, number_line, sums_line}
 use Rattle.sx_sections.specs.Names.{name_text}
 use Rattle.sx_sections.specs.Places.{section_at}
 use Rattle.sx_dump.specs.Opening.{IsOpened, dump_in}
-use Rattle.sx_dump.specs.Showing.{chunk_lines, function_lines, list_lines, number_lines, places_lines, sums_lines, text_in}
+use Rattle.sx_dump.specs.Showing.{chunk_lines, corrections_lines, function_lines, list_lines, number_lines, places_lines, signature_lines, sums_lines, text_in}
 
 -- the lines of a function behind others, one part after another
 pub function_behind : (old line : List ℕ) (name : SectionName) (f : Function) (items : List ℕ) (pairs chunks cells : ℕ) → line ≡ function_line (name_text name) f.width pairs chunks cells
@@ -46,6 +47,15 @@ sums_behind old line name count below items line_is many end =
     let n = sums_line (name_text name) (length items) (below_of items) in
     let same : line ≡ n = line_is ∙ (λ i. sums_line (name_text name) (many i) (end i)) in
     sym (append_assoc old n (number_lines (codes "item") items)) ∙ (λ i. (old ++ sym same i) ++ number_lines (codes "item") items)
+
+-- the same of signatures
+pub corrections_behind : (old line : List ℕ) (name : SectionName) (count : ℕ) (sigs : List Signature) → line ≡ number_line (name_text name) count → count ≡ length sigs
+    → old ++ corrections_lines name sigs ≡ (old ++ line) ++ signature_lines sigs
+unfolding corrections_lines
+corrections_behind old line name count sigs line_is many =
+    let n = number_line (name_text name) (length sigs) in
+    let same : line ≡ n = line_is ∙ ap (number_line (name_text name)) many in
+    sym (append_assoc old n (signature_lines sigs)) ∙ (λ i. (old ++ sym same i) ++ signature_lines sigs)
 
 -- the text is the lines of the header, on an empty page, and those of the sections at the places
 pub text_is : (words old page : List ℕ) (h : HeaderBy) (places : List Place) → IsOpened words h places → old ≡ [] → page ≡ old ++ header_lines (header_as h) → text_in words ≡ page ++ places_lines (header_as h) words places

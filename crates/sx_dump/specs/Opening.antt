@@ -1,9 +1,10 @@
 -- What the words of a file are as a dump.
-use Rattle.std.specs.Prelude.{◌≡◌, ℕ, ◌≤◌, true, List, [], map, drop, slice_get, Some, Result, Ok, Err}
+use Rattle.std.specs.Prelude.{◌≡◌, ℕ, ◌+◌, ◌≤◌, true, List, [], length, map, drop, slice_get, Some, Result, Ok, Err}
 use Rattle.std.specs.Result.{result_unwrap_or}
 use Rattle.sx_ef.specs.declared.section.Sums.{Sums as SumsPlace}
 use Rattle.sx_fields.specs.declared.section.Section.{Section as Packed}
 use Rattle.sx_spec.specs.Layout.{Dump, Section, header_of, layout, sections_in, slots}
+use Rattle.sx_spec.specs.Reply.{numbers_of, section_at as section_of_dump, signatures_in}
 use Rattle.sx_spec_program.specs.Offer.{opened_by}
 use Rattle.sx_spec_program.specs.Program.{sux_offer}
 use Rattle.sx_static.specs.Viewing.{IsViewed}
@@ -71,6 +72,15 @@ pub record IsFunctionAt (places : List Place) (i : ℕ) : Type 0 where
 pub record IsListAt (places : List Place) (i : ℕ) : Type 0 where
   pub section : Packed
   pub there : slice_get places i ≡ Some (ListPlace section)
+
+-- place i is that of signatures
+pub record IsCorrectionsAt (places : List Place) (i : ℕ) : Type 0 where
+  pub section : CorrectionsPlace
+  pub there : slice_get places i ≡ Some (Corrections section)
+
+-- section i of the dump in the words has as many signatures as the one behind it has numbers
+abbrev pub AreBeside : List ℕ → ℕ → Type 0
+AreBeside words i = length (numbers_of (dump_in words) (i + 1)) ≡ length (signatures_in (section_of_dump (dump_in words) i))
 
 -- place i is that of an Elias-Fano list
 pub record IsSumsAt (places : List Place) (i : ℕ) : Type 0 where

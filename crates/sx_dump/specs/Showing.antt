@@ -1,17 +1,17 @@
 -- Text that is written as it is made, and its lines.
-use Rattle.std.specs.Prelude.{◌≡◌, ℕ, List, ◌++◌, Option, codes, drop, flat_map, length, map, zip, ⊤}
+use Rattle.std.specs.Prelude.{◌≡◌, ℕ, List, ◌++◌, Option, codes, drop, flat_map, length, map, zip}
 use Rattle.std.specs.Io.KnownBytes.{Appends}
 use Rattle.std.specs.List.{enumerate_from}
 use Rattle.sx_ef.specs.declared.section.Sums.{Sums as SumsPlace}
 use Rattle.sx_ef.specs.Parts.{numbers_in}
 use Rattle.sx_spec.specs.Fields.{below_of}
+use Rattle.sx_spec.specs.declared.Signature.{Signature}
 use Rattle.sx_spec.specs.Layout.{Header, slots}
 use Rattle.sx_spec.specs.Show.{dump_text, section_text}
 use Rattle.sx_spec.specs.StaticFunction.{Chunk, Function}
 use Rattle.sx_sections.specs.declared.name.SectionName.{SectionName}
 use Rattle.sx_sections.specs.declared.place.Place.{Place}
-use Rattle.sx_sections.specs.declared.place.Place.TheVariants.{Function as FunctionPlace, List as ListPlace, Sums, Corrections}
-use Rattle.sx_sections.specs.Lines.{chunk_line, entry_line, function_line, list_line, sums_line}
+use Rattle.sx_sections.specs.Lines.{chunk_line, correction_line, entry_line, function_line, list_line, number_line, sums_line}
 use Rattle.sx_sections.specs.Names.{name_text}
 use Rattle.sx_sections.specs.Places.{section_at}
 use Rattle.sx_dump.specs.Opening.{dump_in}
@@ -49,18 +49,19 @@ sums_read words s = numbers_in s.count s.below (drop s.body words)
 unfoldable pub sums_lines : SectionName → List ℕ → List ℕ
 sums_lines name items = sums_line (name_text name) (length items) (below_of items) ++ number_lines (codes "item") items
 
+-- the lines of all signatures
+abbrev pub signature_lines : List Signature → List ℕ
+signature_lines sigs = flat_map (λ p. correction_line p.0 p.1) (enumerate_from 0 sigs)
+
+-- the lines of signatures of this name: its own, and those of the signatures
+unfoldable pub corrections_lines : SectionName → List Signature → List ℕ
+corrections_lines name sigs = number_line (name_text name) (length sigs) ++ signature_lines sigs
+
 -- the lines of the section of this name at a place in the words
 unfoldable pub place_lines : List ℕ → SectionName → Place → List ℕ
 place_lines words name place = section_text (name_text name) (section_at words place)
 
 -- ---- the lines of all sections
-
--- a place whose lines are written: that of a function, or of a list of either sort
-abbrev pub IsShownPlace : Place → Type 0
-IsShownPlace (FunctionPlace s) = ⊤
-IsShownPlace (ListPlace s) = ⊤
-IsShownPlace (Sums s) = ⊤
-IsShownPlace (Corrections s) = ⊥
 
 -- the lines of the sections at these places in the words, in the slots of a header
 unfoldable pub places_lines : Header → List ℕ → List Place → List ℕ

@@ -1,10 +1,10 @@
 -- What answers for a dump, by its kind.
-use Rattle.std.specs.Prelude.{◌≡◌, ◌≢◌, ℕ, List, Option, Some, None, drop}
+use Rattle.std.specs.Prelude.{◌≡◌, ◌≢◌, ℕ, ◌+◌, List, length, Option, Some, None, drop}
 use Rattle.sx_ef.specs.Parts.{sums_of}
 use Rattle.sx_ef.specs.declared.view.EliasFano.{EliasFano}
 use Rattle.sx_fields.specs.declared.bank.WordBank.{Ghosts}
 use Rattle.sx_fields.specs.declared.packed.Packed.{Packed}
-use Rattle.sx_spec_kinds.specs.declared.Kind.TheVariants.{Func as FuncKind, Lcp as LcpKind, Lcp2 as Lcp2Kind, Hollow as HollowKind, HollowDist as HollowDistKind}
+use Rattle.sx_spec_kinds.specs.declared.Kind.TheVariants.{Func as FuncKind, Lcp as LcpKind, Lcp2 as Lcp2Kind, Hollow as HollowKind, HollowDist as HollowDistKind, Zfast as ZfastKind}
 use Rattle.sx_hollow.specs.declared.view.HollowView.{HollowView}
 use Rattle.sx_lcp.specs.declared.lcp.LcpView.{LcpView}
 use Rattle.sx_lcp.specs.declared.lcp2.Lcp2View.{Lcp2View}
@@ -12,13 +12,16 @@ use Rattle.sx_ranksel.specs.Directory.{number_at}
 use Rattle.sx_spec.specs.Fields.{fields, ones_of}
 use Rattle.sx_spec.specs.Kinds.{delimiter_count}
 use Rattle.sx_spec.specs.Layout.{header_of, section_width}
-use Rattle.sx_spec.specs.Reply.{function_in, kept_numbers, numbers_of, section_at}
+use Rattle.sx_spec.specs.Reply.{function_in, kept_numbers, numbers_of, section_at, signatures_in}
 use Rattle.sx_static.specs.Viewing.{viewed}
 use Rattle.sx_static.specs.declared.view.FuncView.{FuncView}
 use Rattle.sx_dump.specs.Opening.{dump_in}
 use Rattle.sx_dump.specs.declared.hollow_dist.HollowDistributor.{HollowDistributor}
+use Rattle.sx_dump.specs.declared.zfast.ZfastDistributor.{ZfastDistributor}
+use Rattle.sx_zfast.specs.declared.corrected.Corrections.{Corrections}
+use Rattle.sx_zfast.specs.Views.{signatures_read}
 use Rattle.sx_dump.specs.declared.view.View.{View}
-use Rattle.sx_dump.specs.declared.view.View.TheVariants.{Func, Lcp, Lcp2, Hollow, HollowDist}
+use Rattle.sx_dump.specs.declared.view.View.TheVariants.{Func, Lcp, Lcp2, Hollow, HollowDist, Zfast}
 
 -- the function that is read is that of section i of the dump in the words
 pub record ReadsFunction {B : Type 0} {bank_of : Ghosts B} (words : List ℕ) (i : ℕ) (v : FuncView B bank_of) : Type 0 where
@@ -96,6 +99,29 @@ pub record IsHollowDistView {B : Type 0} {bank_of : Ghosts B} (words : List ℕ)
   pub keys : v.keys ≡ (header_of words).keys
   pub bucket : v.log_bucket ≡ (header_of words).plan.log_bucket
 
+-- the signatures are those of section i of the dump in the words, and the numbers beside them those of the section behind it
+pub record ReadsCorrections {B : Type 0} {bank_of : Ghosts B} (words : List ℕ) (i : ℕ) (c : Corrections B bank_of) : Type 0 where
+  pub signatures : signatures_read c ≡ signatures_in (section_at (dump_in words) i)
+  pub count : c.count ≡ length (signatures_in (section_at (dump_in words) i))
+  pub blocks : ReadsNumbers words (i + 1) c.blocks
+
+-- the distributor is that of a dump of kind zfast in the words, with as many delimiters as the keys come to
+pub record IsZfastView {B : Type 0} {bank_of : Ghosts B} (words : List ℕ) (v : ZfastDistributor B bank_of) : Type 0 where
+  pub kind : (header_of words).plan.kind ≡ ZfastKind
+  pub offsets : ReadsFunction words 0 v.offsets
+  pub extents : ReadsNumbers words 1 v.blocks.extents
+  pub firsts : ReadsNumbers words 2 v.blocks.firsts
+  pub middles : ReadsNumbers words 3 v.blocks.middles
+  pub afters : ReadsNumbers words 4 v.blocks.afters
+  pub handles : ReadsFunction words 5 v.blocks.map.func
+  pub marks : ReadsNumbers words 6 v.blocks.map.kept
+  pub wide : v.blocks.map.kept.width ≡ (header_of words).plan.handle_bits
+  pub codes : ReadsFunction words 7 v.blocks.codes
+  pub corrections : ReadsCorrections words 8 v.blocks.corrections
+  pub delimiters : v.blocks.delimiters ≡ delimiter_count (header_of words).plan (header_of words).keys
+  pub keys : v.keys ≡ (header_of words).keys
+  pub bucket : v.log_bucket ≡ (header_of words).plan.log_bucket
+
 -- what answers is made from the sections of the dump in the words: a row for each kind
 pub record IsViewOf {B : Type 0} {bank_of : Ghosts B} (words : List ℕ) (view : View B bank_of) : Type 0 where
   pub func : (values : FuncView B bank_of) → view ≡ Func values → IsFuncView words values
@@ -103,3 +129,4 @@ pub record IsViewOf {B : Type 0} {bank_of : Ghosts B} (words : List ℕ) (view :
   pub lcp2 : (lcp2 : Lcp2View B bank_of) → view ≡ Lcp2 lcp2 → IsLcp2View words lcp2
   pub hollow : (hollow : HollowView B bank_of) → view ≡ Hollow hollow → IsHollowView words hollow
   pub hollow_dist : (dist : HollowDistributor B bank_of) → view ≡ HollowDist dist → IsHollowDistView words dist
+  pub zfast : (dist : ZfastDistributor B bank_of) → view ≡ Zfast dist → IsZfastView words dist

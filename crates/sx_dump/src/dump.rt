@@ -8,10 +8,11 @@ ghost use Rattle.sx_spec.specs.Reply.{reads, reply, reply_number, string_reply};
 ghost use Rattle.sx_spec.specs.Signature.{signature};
 ghost use Rattle.sx_dump.specs.Opening.{IsOpened, dump_in};
 ghost use Rattle.sx_dump.specs.Replying.{kept_reads, place_kept, string_reads};
-ghost use Rattle.sx_dump.specs.Viewing.{IsFuncView, IsHollowDistView, IsHollowView, IsKeptView, IsLcp2View, IsLcpView, IsViewOf};
+ghost use Rattle.sx_dump.specs.Viewing.{IsFuncView, IsHollowDistView, IsHollowView, IsKeptView, IsLcp2View, IsLcpView, IsViewOf, IsZfastView};
 
 use crate::hollow_dist::HollowDistributor;
 use crate::view::{View, kept_of, view_of};
+use crate::zfast::ZfastDistributor;
 use std::alloc::{AllocError, Global};
 use std::sync::ledger::Ledger;
 use sx_bits::BitView;
@@ -122,6 +123,7 @@ impl<B: WordBank + Copy> Dump<B> {
             View::Lcp2(lcp2) => self.reply_by_lcp2(lcp2, key, steps),
             View::Hollow(hollow) => self.reply_by_hollow(hollow, key, steps),
             View::HollowDist(dist) => self.reply_by_hollow_dist(dist, key, steps),
+            View::Zfast(dist) => self.reply_by_zfast(dist, key, steps),
         }
     }
 
@@ -219,6 +221,27 @@ impl<B: WordBank + Copy> Dump<B> {
     ) -> Option<u64>
         requires dist { IsHollowDistView (B.words_of self.now.bank) dist.now }
         requires whole { 8 ≤ length (bits_of key.now) }
+        ensures value { result
+            ≡ string_reply (dump_in (B.words_of self.now.bank)) (bits_of key.now) }
+        ensures counted { steps.old ≤ steps.new }
+        ensures cost { steps.new
+            ≤ steps.old + string_reads (dump_in (B.words_of self.now.bank)) (bits_of key.now) }
+    {
+        let header = &self.header;
+        let sig = self.signature_of(key);
+        let place = dist.answer(key, &sig, header.seed, header.plan.sig_bits, steps);
+        self.where_kept(place, &sig, steps)
+    }
+
+    /// The same of the kind `zfast`, whose place takes at most 12 reads of words for each binary digit
+    /// of the string's length, 3 for each of the number of corrections, and 32.
+    fn reply_by_zfast<L: Ledger>(
+        &self,
+        dist: &ZfastDistributor<B>,
+        key: &BitView<'_>,
+        steps: &mut Steps<L>,
+    ) -> Option<u64>
+        requires { IsZfastView (B.words_of self.now.bank) dist.now }
         ensures value { result
             ≡ string_reply (dump_in (B.words_of self.now.bank)) (bits_of key.now) }
         ensures counted { steps.old ≤ steps.new }

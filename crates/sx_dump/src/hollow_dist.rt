@@ -7,8 +7,7 @@ ghost use Rattle.sx_spec_kinds.specs.HollowDistributor.{hollow_dist_reply};
 ghost use Rattle.sx_spec.specs.Reply.{gaps};
 ghost use Rattle.sx_spec.specs.Signature.{signature};
 ghost use Rattle.sx_bits.specs.Views.{bits_of};
-ghost use Rattle.sx_lcp.specs.Views.{answers_by};
-ghost use Rattle.sx_hollow.specs.Dist.{turns_by};
+ghost use Rattle.sx_static.specs.Reading.{answers_by};
 ghost use Rattle.sx_hollow.specs.Views.{sums_read};
 
 use std::sync::ledger::Ledger;
@@ -73,7 +72,7 @@ impl<B: WordBank + Copy> HollowDistributor<B> {
         ensures value { result ≡ hollow_dist_reply self.now.keys (block_size self.now.log_bucket)
             (gaps (sums_read self.now.blocks.left)) (gaps (sums_read self.now.blocks.skip))
             (answers_by self.now.offsets seed sig_bits)
-            (turns_by self.now.blocks.turns seed sig_bits) self.now.blocks.delimiters
+            (answers_by self.now.blocks.turns seed sig_bits) self.now.blocks.delimiters
             (bits_of view.now) }
         ensures counted { steps.old ≤ steps.new }
         ensures cost { steps.new ≤ steps.old + (170 * length (bits_of view.now) + 16) }

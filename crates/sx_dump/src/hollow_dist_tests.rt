@@ -32,7 +32,7 @@ const NONE: [u64; 24] = [
 ];
 
 /// The dump of the keys A, a, b, c and d, in blocks of two: a and c are its delimiters.
-const PAIRS: [u64; 27] = [
+pub(crate) const PAIRS: [u64; 27] = [
     0x3150_4D55_4458_5553,
     27,
     4,
@@ -102,7 +102,7 @@ fn leaning(below: u64, upper: u64) -> [u64; 27] {
 fn sections_without_keys_are_checked(rt: HostRuntime) -> Result<(), Fail> {
     let alloc = rt.alloc();
     assert_eq!(rt; failing(alloc, &NONE, 192), 0);
-    assert_eq!(rt; changed_in(alloc, &NONE, 2, 5), 4);
+    assert_eq!(rt; changed_in(alloc, &NONE, 2, 6), 4);
     assert_eq!(rt; changed_in(alloc, &NONE, 3, 2), 5);
     assert_eq!(rt; changed_in(alloc, &NONE, 7, 13), 8);
     assert_eq!(rt; changed_in(alloc, &NONE, 9, 1), 10);

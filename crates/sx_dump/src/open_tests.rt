@@ -202,7 +202,7 @@ fn headers_are_checked(rt: HostRuntime) -> Result<(), Fail> {
     assert_eq!(rt; failing(alloc, &FIVES[..14], 111), 1);
     assert_eq!(rt; changed(alloc, 0, 0), 2);
     assert_eq!(rt; changed(alloc, 1, 15), 3);
-    assert_eq!(rt; changed(alloc, 2, 5), 4);
+    assert_eq!(rt; changed(alloc, 2, 5), 11);
     assert_eq!(rt; changed(alloc, 2, 6), 4);
     assert_eq!(rt; changed(alloc, 3, 2), 5);
     assert_eq!(rt; changed(alloc, 4, 1 << 32), 6);
@@ -271,7 +271,7 @@ fn sections_of_hollow_tries_are_checked(rt: HostRuntime) -> Result<(), Fail> {
 
 /// The reply of a dump to a line, or -2 where the dump isn't opened.
 pub(crate) fn replied(alloc: Global, words: &[u64], line: &[u8]) -> i128
-    requires few { length words.now ≤ 34 }
+    requires few { length words.now ≤ 55 }
     requires short { length line.now ≤ 8191 }
 {
     match open_dump(alloc, words, 8 * words.len() as u64, Words::new(words)) {
@@ -327,7 +327,7 @@ fn dumps_reply(rt: HostRuntime) -> Result<(), Fail> {
 
 /// A sink with so much room that a dump was shown to, and whether that failed.
 pub(crate) fn shown(alloc: Global, words: &[u64], room: usize) -> Result<(MemSink, bool), Fail>
-    requires { length words.now ≤ 28 }
+    requires { length words.now ≤ 42 }
 {
     let mut out = MemSink::new(alloc, room, 100, Vec::new(alloc))?;
     let failed = match open_dump(alloc, words, 8 * words.len() as u64, Words::new(words)) {

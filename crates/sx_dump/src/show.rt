@@ -6,15 +6,15 @@ ghost use Rattle.std.specs.Io.KnownBytes.{Appends};
 ghost use Rattle.sx_spec.specs.Causes.{HasCause};
 ghost use Rattle.sx_spec.specs.Chunks.{chunk_count as chunk_count_of};
 ghost use Rattle.sx_spec.specs.Fields.{fields};
-ghost use Rattle.sx_spec.specs.Layout.{table_start};
 ghost use Rattle.sx_spec.specs.Show.{dump_text};
+ghost use Rattle.sx_sig.specs.SignatureWords.{signature_at, signatures_at};
 ghost use Rattle.sx_static.specs.Viewing.{IsViewed, viewed};
 ghost use Rattle.sx_ranksel.specs.Directory.{number_at};
 ghost use Rattle.sx_edge.specs.Parts.{AppendsPrefix};
 ghost use Rattle.sx_sections.specs.Headers.{header_as};
-ghost use Rattle.sx_sections.specs.Places.{IsListed, IsSummed, Stands};
+ghost use Rattle.sx_sections.specs.Places.{IsCorrected, IsListed, IsSummed, Stands};
 ghost use Rattle.sx_dump.specs.Opening.{IsOpened, dump_in};
-ghost use Rattle.sx_dump.specs.Showing.{IsShown, IsShownPlace, chunk_lines, function_lines, list_lines, number_lines, place_lines, places_lines, sums_lines, sums_read, text_in};
+ghost use Rattle.sx_dump.specs.Showing.{IsShown, chunk_lines, corrections_lines, function_lines, list_lines, number_lines, place_lines, places_lines, sums_lines, sums_read, text_in};
 
 use crate::dump::Dump;
 use std::marker::Brand;
@@ -29,20 +29,18 @@ use sx_fields::packed::Packed;
 use sx_fields::section::Section;
 use sx_sections::header::Header;
 use sx_sections::lines::{
-    Page, Sizes, put_chunk, put_entry, put_function, put_header, put_list, put_sums,
+    Page, Sizes, put_chunk, put_correction, put_corrections, put_entry, put_function, put_header,
+    put_list, put_sums,
 };
 use sx_sections::name::SectionName;
-use sx_sections::place::Place;
+use sx_sections::place::{CorrectionsPlace, Place};
 use sx_sections::slots::slots;
-use sx_sig::chunk_bits;
-use sx_static::FuncView;
+use sx_sig::{Signature, chunk_bits};
+use sx_static::{FuncView, start_of, try_of};
 use sx_steps::Steps;
 
 /// How many bytes a line takes at most.
 const LINE: usize = 256;
-
-/// How many bits of a word of a chunk table name a cell. The others name a try.
-const START_BITS: u32 = 58;
 
 /// Makes room for a further line: writes the page and begins anew where it is nearly full.
 fn make_room<O: Sink>(page: &mut Page, out: &mut O) -> Result<(), Failed>
@@ -59,13 +57,6 @@ fn make_room<O: Sink>(page: &mut Page, out: &mut O) -> Result<(), Failed>
     write_all(out, page.as_str().as_bytes())?;
     page.clear();
     Ok(())
-}
-
-/// The first cell that a word of a chunk table names.
-fn start_of(word: u64) -> u64
-    ensures { result ≡ table_start word }
-{
-    word % (1 << START_BITS)
 }
 
 /// How many chunks so many pairs have.
@@ -90,7 +81,10 @@ fn chunk_at<B: WordBank + Copy, L: Ledger>(
 {
     let here = values.bank.word(values.first + i, steps);
     let next = values.bank.word(values.first + i + 1, steps);
-    ((start_of(next) - start_of(here)) / 3, here >> START_BITS)
+    (
+        (start_of(next) - start_of(here)) / 3,
+        u64::from(try_of(here)),
+    )
 }
 
 /// The cells of all chunks.
@@ -280,6 +274,57 @@ fn show_sums<B: WordBank + Copy, O: Sink, L: Ledger>(
     show_sums_items(sums, bank, steps, page, out)
 }
 
+/// Signature `i` of those that lie there in the words of a bank.
+fn signature_in<B: WordBank + Copy, L: Ledger>(
+    bank: B,
+    corrections: &CorrectionsPlace,
+    i: usize,
+    steps: &mut Steps<L>,
+) -> Signature
+    requires stands { IsCorrected (B.words_of bank) corrections.now }
+    requires there { i < corrections.now.count }
+    ensures value { result ≡ signature_at (B.words_of bank) corrections.now.body i }
+    ensures counted { steps.old ≤ steps.new }
+{
+    let _words = bank.words();
+    let at = corrections.body + 3 * i;
+    Signature {
+        w0: bank.word(at, steps),
+        w1: bank.word(at + 1, steps),
+        w2: bank.word(at + 2, steps),
+    }
+}
+
+/// Puts the lines of signatures of this name behind the page's text, and writes what finds no room
+/// there.
+fn show_corrections<B: WordBank + Copy, O: Sink, L: Ledger>(
+    name: SectionName,
+    corrections: &CorrectionsPlace,
+    bank: B,
+    steps: &mut Steps<L>,
+    page: &mut Page,
+    out: &mut O,
+) -> Result<(), Failed>
+    requires { IsCorrected (B.words_of bank) corrections.now }
+    ensures ok { OnOk result (IsShown (O.written out.old) (O.written out.new)
+        (page.old.bytes ++ corrections_lines name
+        (signatures_at (B.words_of bank) corrections.now.body corrections.now.count))
+        page.new.bytes) }
+    ensures failed { OnErr result (AppendsPrefix (O.written out.old) (O.written out.new)
+        (page.old.bytes ++ corrections_lines name
+        (signatures_at (B.words_of bank) corrections.now.body corrections.now.count))) }
+    ensures cause { HasCause (O.faults out.old) (O.faults out.new) result }
+    ensures counted { steps.old ≤ steps.new }
+{
+    make_room(page, out)?;
+    put_corrections(page, name, corrections.count);
+    'signatures: for i in 0..corrections.count {
+        make_room(page, out)?;
+        put_correction(page, i, &signature_in(bank, corrections, i as usize, steps));
+    }
+    Ok(())
+}
+
 /// The function whose section lies there in the words of a bank.
 fn function_in<B: WordBank + Copy>(bank: B, section: &Section) -> FuncView<B>
     requires { IsViewed (B.words_of bank) section.now.body section.now.width section.now.count }
@@ -299,8 +344,7 @@ fn show_section<B: WordBank + Copy, O: Sink, L: Ledger>(
     page: &mut Page,
     out: &mut O,
 ) -> Result<(), Failed>
-    requires stands { Stands (B.words_of bank) place.now }
-    requires shown { IsShownPlace place.now }
+    requires { Stands (B.words_of bank) place.now }
     ensures ok { OnOk result (IsShown (O.written out.old) (O.written out.new)
         (page.old.bytes ++ place_lines (B.words_of bank) name place.now) page.new.bytes) }
     ensures failed { OnErr result (AppendsPrefix (O.written out.old) (O.written out.new)
@@ -314,8 +358,9 @@ fn show_section<B: WordBank + Copy, O: Sink, L: Ledger>(
         }
         Place::List(section) => show_list(name, section, bank, steps, page, out),
         Place::Sums(sums) => show_sums(name, sums, bank, steps, page, out),
-        // No kind that is opened has corrections: a dump of another fails check 4.
-        Place::Corrections(_) => unreachable!(),
+        Place::Corrections(corrections) => {
+            show_corrections(name, corrections, bank, steps, page, out)
+        }
     }
 }
 

@@ -1,10 +1,11 @@
 //! What answers for a dump, by its kind, made from the places of its sections.
 
-ghost use Rattle.std.specs.Prelude.{◌≡◌, IfOk};
-ghost use Rattle.sx_dump.specs.Opening.{IsFunctionAt, IsListAt, IsOpened, IsSumsAt};
-ghost use Rattle.sx_dump.specs.Viewing.{IsHollowDistView, IsHollowView, IsKeptView, IsLcp2View, IsLcpView, IsViewOf, ReadsFunction, ReadsNumbers, ReadsSums};
+ghost use Rattle.std.specs.Prelude.{◌≡◌, ◌+◌, IfOk};
+ghost use Rattle.sx_dump.specs.Opening.{AreBeside, IsCorrectionsAt, IsFunctionAt, IsListAt, IsOpened, IsSumsAt};
+ghost use Rattle.sx_dump.specs.Viewing.{IsHollowDistView, IsHollowView, IsKeptView, IsLcp2View, IsLcpView, IsViewOf, IsZfastView, ReadsCorrections, ReadsFunction, ReadsNumbers, ReadsSums};
 
 use crate::hollow_dist::HollowDistributor;
+use crate::zfast::ZfastDistributor;
 use std::alloc::{AllocError, Global};
 use sx_ef::view::EliasFano;
 use sx_fields::bank::WordBank;
@@ -14,8 +15,10 @@ use sx_lcp::{Lcp2View, LcpView};
 use sx_sections::counts::delimiter_count;
 use sx_sections::open::Opened;
 use sx_sections::place::Place;
+use sx_signed::SignedView;
 use sx_spec::Kind;
 use sx_static::FuncView;
+use sx_zfast::{Corrections, ZfastView};
 
 /// The sections of a dump, as they answer from a bank of its words.
 #[derive(Drop)]
@@ -30,6 +33,9 @@ pub enum View<B: WordBank + Copy> {
     Hollow(HollowView<B>),
     /// Those of the kind `hollowdist`: the offsets, the sums of the two lists, and the turns.
     HollowDist(HollowDistributor<B>),
+    /// Those of the kind `zfast`: the offsets, the inner nodes, the handles and their marks, the codes
+    /// and the corrections.
+    Zfast(ZfastDistributor<B>),
 }
 
 /// The function of section `i` of the dump in a bank of words that were opened.
@@ -170,6 +176,60 @@ fn hollow_dist_view<B: WordBank + Copy>(
     Ok(HollowDistributor::new(offsets, blocks, keys, opened.header.plan.log_bucket))
 }
 
+/// The signatures of section `i` of the dump in a bank of words that were opened, with the blocks
+/// beside them, which are the numbers of the section behind it.
+fn corrections_at<B: WordBank + Copy>(
+    bank: B,
+    opened: &Opened,
+    i: usize,
+    blocks: Packed<B>,
+) -> Corrections<B>
+    requires opened { IsOpened (B.words_of bank) opened.now.header opened.now.places.items }
+    requires corrections { IsCorrectionsAt opened.now.places.items i }
+    requires blocks { ReadsNumbers (B.words_of bank) (i + 1) blocks }
+    requires beside { AreBeside (B.words_of bank) i }
+    ensures { ReadsCorrections (B.words_of bank) i result }
+{
+    match &opened.places.as_slice()[i] {
+        Place::Corrections(corrections) => {
+            Corrections::new(bank, corrections.body, corrections.count, blocks)
+        }
+        Place::Function(_) | Place::List(_) | Place::Sums(_) => unreachable!(),
+    }
+}
+
+/// The distributor of the dump of kind `zfast` in a bank of words that were opened.
+fn zfast_view<B: WordBank + Copy>(bank: B, opened: &Opened) -> ZfastDistributor<B>
+    requires opened { IsOpened (B.words_of bank) opened.now.header opened.now.places.items }
+    requires kind { opened.now.header.plan.kind ≡ Kind.Zfast }
+    ensures { IsZfastView (B.words_of bank) result }
+{
+    let offsets = function_at(bank, opened, 0);
+    let extents = list_at(bank, opened, 1);
+    let firsts = list_at(bank, opened, 2);
+    let middles = list_at(bank, opened, 3);
+    let afters = list_at(bank, opened, 4);
+    let handles = function_at(bank, opened, 5);
+    let marks = list_at(bank, opened, 6);
+    let codes = function_at(bank, opened, 7);
+    let beside = list_at(bank, opened, 9);
+    let corrections = corrections_at(bank, opened, 8, beside);
+    let delimiters = delimiter_count(&opened.header);
+    let map = SignedView::new(handles, marks);
+    let blocks = ZfastView::new(
+        delimiters,
+        extents,
+        firsts,
+        middles,
+        afters,
+        map,
+        codes,
+        corrections,
+    );
+    let keys = u64::from(opened.header.keys);
+    ZfastDistributor::new(offsets, blocks, keys, opened.header.plan.log_bucket)
+}
+
 /// What answers for the dump in a bank of words that were opened.
 ///
 /// # Errors
@@ -188,6 +248,6 @@ pub fn view_of<B: WordBank + Copy>(
         Kind::Lcp2 => Ok(View::Lcp2(lcp2_view(bank, opened))),
         Kind::Hollow => Ok(View::Hollow(hollow_view(alloc, bank, opened)?)),
         Kind::HollowDist => Ok(View::HollowDist(hollow_dist_view(alloc, bank, opened)?)),
-        Kind::Zfast => unreachable!(),
+        Kind::Zfast => Ok(View::Zfast(zfast_view(bank, opened))),
     }
 }

@@ -5,7 +5,7 @@ use Rattle.std.specs.List.{range_with_len}
 use Rattle.std.specs.Ordering.{is_lt}
 use Rattle.sx_spec.specs.declared.Signature.{Signature}
 use Rattle.sx_spec.specs.Signature.{signature_cmp}
-use Rattle.sx_sections.specs.Places.{rises}
+use Rattle.sx_sig.specs.SignatureWords.{rises}
 
 module _ (f : ℕ → Signature) where
   abbrev from : ℕ → ℕ → Bool

@@ -7,7 +7,8 @@ use Rattle.std.proofs.lemmas.List.{length-drop}
 use Rattle.sx_spec_strings.specs.First.{first_failing}
 use Rattle.sx_spec.specs.Layout.{correction_at, correction_list, corrections_checks, corrections_of, corrections_section}
 use Rattle.sx_sections.specs.declared.place.Place.TheVariants.{Corrections}
-use Rattle.sx_sections.specs.Places.{IsFound, rises, signature_at, signatures_at}
+use Rattle.sx_sig.specs.SignatureWords.{rises, signature_at, signatures_at}
+use Rattle.sx_sections.specs.Places.{IsFound}
 
 module _ (words : List ℕ) (at most : ℕ) where
   abbrev rest : List ℕ

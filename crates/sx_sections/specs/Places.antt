@@ -1,39 +1,18 @@
 -- Where sections stand in words, and what stands there.
-use Rattle.std.specs.Prelude.{◌≡◌, ℕ, ◌+◌, ◌*◌, ◌<◌, ◌≤◌, ◌^◌, Bool, true, List, length, map, drop, Some, None, Result, Ok, Err, slice_index}
-use Rattle.std.specs.List.{list_all, range_with_len}
-use Rattle.std.specs.Ordering.{is_lt}
+use Rattle.std.specs.Prelude.{◌≡◌, ℕ, ◌+◌, ◌*◌, ◌<◌, ◌≤◌, ◌^◌, true, List, length, drop, Some, None, Result, Ok, Err}
 use Rattle.sx_spec_strings.specs.First.{first_failing}
-use Rattle.sx_spec.specs.declared.Signature.{Signature}
 use Rattle.sx_spec.specs.Fields.{fields, words_for}
-use Rattle.sx_spec.specs.Layout.{Section, SectionRule, function_section, list_section, sums_section, corrections_section, neighbours, section_checks, section_of, section_size}
-use Rattle.sx_spec.specs.Signature.{signature_cmp}
+use Rattle.sx_spec.specs.Layout.{Section, SectionRule, function_section, list_section, sums_section, corrections_section, section_checks, section_of, section_size}
 use Rattle.sx_fields.specs.declared.section.Section.{Section as Packed}
 use Rattle.sx_ef.specs.declared.section.Sums.{Sums as SumsPlace}
 use Rattle.sx_ef.specs.Parts.{is_sums_list, low_size, numbers_in, upper_size}
+use Rattle.sx_sig.specs.SignatureWords.{signatures_at, rises}
 use Rattle.sx_static.specs.Viewing.{IsViewed, viewed}
 use Rattle.sx_sections.specs.declared.place.CorrectionsPlace.{CorrectionsPlace}
 use Rattle.sx_sections.specs.declared.place.Place.{Place}
 use Rattle.sx_sections.specs.declared.place.Place.TheVariants.{Function, List as ListPlace, Sums, Corrections}
 use Rattle.sx_sections.specs.declared.number.Check.{Check}
 use Rattle.sx_sections.specs.Checks.{check_number}
-
--- ---- corrections
-
--- signature i of those whose words begin at a word
-abbrev pub signature_at : List ℕ → (body i : ℕ) → Signature
-signature_at words body i = record {
-  w0 = slice_index words (body + 3 * i);
-  w1 = slice_index words (body + 3 * i + 1);
-  w2 = slice_index words (body + 3 * i + 2);
-}
-
--- so many signatures whose words begin at a word
-abbrev pub signatures_at : List ℕ → (body count : ℕ) → List Signature
-signatures_at words body count = map (signature_at words body) (range_with_len 0 count)
-
--- whether each signature is below the next
-abbrev pub rises : List Signature → Bool
-rises sigs = list_all (λ p. is_lt (signature_cmp p.0 p.1)) (neighbours sigs)
 
 -- ---- what stands at a place
 

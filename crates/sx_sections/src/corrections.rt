@@ -4,7 +4,8 @@ ghost use Rattle.std.specs.Prelude.{◌≡◌, ◌+◌, ◌*◌, ◌<◌, ◌≤
 ghost use Rattle.std.specs.Ordering.{is_lt};
 ghost use Rattle.sx_spec.specs.Layout.{corrections_of};
 ghost use Rattle.sx_spec.specs.Signature.{signature_cmp};
-ghost use Rattle.sx_sections.specs.Places.{IsChecked, rises, signature_at as signature_of, signatures_at};
+ghost use Rattle.sx_sig.specs.SignatureWords.{rises, signature_at as signature_of, signatures_at};
+ghost use Rattle.sx_sections.specs.Places.{IsChecked};
 
 use crate::number::Check;
 use crate::place::{CorrectionsPlace, Place};

@@ -17,7 +17,7 @@ use sx_spec::Kind;
 const MIN_BYTES: u64 = 80;
 
 /// How many bytes a dump has at most.
-const MAX_BYTES: u64 = 1 << 30;
+pub const MAX_BYTES: u64 = 1 << 30;
 
 /// The greatest signed width.
 const MAX_SIGNED: u32 = 64;

@@ -152,6 +152,17 @@ pub fn put_sums(page: &mut Page, name: SectionName, count: u64, below: u64)
     page.push_str("\n");
 }
 
+/// Puts the head of corrections: the name and their number.
+#[tactic(auto, unfolding(crate::specs::Lines::number_line))]
+pub fn put_corrections(page: &mut Page, name: SectionName, count: u64)
+    requires { length page.old.bytes + 256 ≤ 4096 }
+    ensures { page.new.bytes ≡ page.old.bytes ++ lines.number_line (name_text name) count }
+{
+    page.push_str(text_of(name));
+    put_number(page, " ", count);
+    page.push_str("\n");
+}
+
 /// Puts the head of a function.
 pub fn put_function(page: &mut Page, name: SectionName, width: u32, pairs: u64, sizes: Sizes)
     requires { length page.old.bytes + 256 ≤ 4096 }

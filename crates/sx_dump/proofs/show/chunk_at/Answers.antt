@@ -18,4 +18,4 @@ returns-clause-chunk g c =
     let v = c.args.values.now in
     let words = g.B.WordBank.words_of v.bank in
     chunk_is words v.first v.width v.pairs v.stands c.args.i c.requires _ c.start_of-2.result c.start_of.result _
-    (c.start_of.ensures ∙ ap table_start c.word-next.ensures.word) (c.start_of-2.ensures ∙ ap table_start c.word-here.ensures.word) (λ k. (c.start_of.result - c.start_of-2.result) / 3) (ap table_try c.word-here.ensures.word)
+    (c.start_of.ensures ∙ ap table_start c.word-next.ensures.word) (c.start_of-2.ensures ∙ ap table_start c.word-here.ensures.word) (λ k. (c.start_of.result - c.start_of-2.result) / 3) (c.from.ensures ∙ c.try_of.ensures.value ∙ ap table_try c.word-here.ensures.word)

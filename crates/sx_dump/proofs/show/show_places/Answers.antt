@@ -1,14 +1,13 @@
 use Rattle.std.proofs.Common.{◌≡◌, ◌+◌, ◌++◌, ◌∷◌, [], ℕ, List, ap, arith, length, length-append, refl, subst, sym, ◌∙◌}
 use Rattle.std.specs.Prelude.{Some, flat_map, slice_get, zip}
 use Rattle.std.proofs.lemmas.Option.{slice_get-get_or}
-use Rattle.std.specs.List.{AllByRecursion}
 use Rattle.std.proofs.lemmas.Slice.Zip.{length-zip, zip_end, zip_turn}
 use Rattle.sx_edge.specs.Parts.{AppendsPrefix}
 use Rattle.sx_sections.specs.Headers.{header_as}
 use Rattle.sx_sections.specs.declared.place.Place.{Place}
-use Rattle.sx_dump.specs.Showing.{IsShown, IsShownPlace, place_lines, places_lines}
+use Rattle.sx_dump.specs.Showing.{IsShown, place_lines, places_lines}
 use Rattle.sx_dump.proofs.Showing.{at_exit, shown_none, text_cut, text_shown, texts_shown}
-use Rattle.sx_dump.proofs.ShownPlaces.{of_place, places_are, place_stands, places_shown, zip_item}
+use Rattle.sx_dump.proofs.ShownPlaces.{places_are, place_stands, zip_item}
 use Rattle.sx_dump.proofs.show.show_places.Goals as goal
 
 pub sections-init : goal.sections-init
@@ -36,8 +35,8 @@ sections-preserved g c =
       counted = omega (arith, c.sections.invariant.counted, c.show_section.ensures.counted);
     }
 
-pub show_section-requires-clause-stands : goal.show_section-requires-clause-stands
-show_section-requires-clause-stands g c =
+pub show_section-requires : goal.show_section-requires
+show_section-requires g c =
     let s = c.into_iter-slot-iterator.result in
     let ks = s.a.rest.now in
     let vs = s.b.rest.now in
@@ -48,18 +47,6 @@ show_section-requires-clause-stands g c =
     let at : slice_get vs n ≡ Some c.in-Some.place.now = slice_get-get_or vs n c.in-Some.place.now turn.1 ∙ ap (λ (p : Place). Some p) (sym (turn.3 c.in-Some.place.now)) in
     place_stands (g.B.WordBank.words_of c.args.bank) c.args.places.now n c.in-Some.place.now c.requires.stand
     (subst (λ (places : List Place). slice_get places n ≡ Some c.in-Some.place.now) vs_are at)
-
-pub show_section-requires-clause-shown : goal.show_section-requires-clause-shown
-show_section-requires-clause-shown g c =
-    let s = c.into_iter-slot-iterator.result in
-    let ks = s.a.rest.now in
-    let vs = s.b.rest.now in
-    let turn = zip_turn ks vs c.sections.yielded s c.sections.slot-iterator c.next.new.self c.next.result refl refl c.sections.yielded_by (c.in-Some.slot, c.in-Some.place) c.in-Some.is c.next.ensures.steps in
-    let second : c.zip-slot-items.result.b.rest.now ≡ c.args.places.now = c.zip-slot-items.ensures.second.0 in
-    let vs_are : vs ≡ c.args.places.now = (λ i. (c.into_iter-slot-iterator.ensures.into_iter_gives i).b.rest.now) ∙ second in
-    let all = subst (AllByRecursion IsShownPlace) (sym vs_are)
-    (places_shown (g.B.WordBank.words_of c.args.bank) c.args.header.now c.args.places.now c.requires) in
-    of_place IsShownPlace vs (length c.sections.yielded) c.in-Some.place.now all turn.1 (turn.3 c.in-Some.place.now)
 
 pub returns-in_err-show_section-clause-failed : goal.returns-in_err-show_section-clause-failed
 returns-in_err-show_section-clause-failed g c =

@@ -3,7 +3,7 @@ use Rattle.std.specs.Prelude.{OnOk, OnErr}
 use Rattle.sx_edge.specs.Parts.{AppendsPrefix}
 use Rattle.sx_static.specs.Viewing.{viewed}
 use Rattle.sx_dump.specs.Showing.{IsShown}
-use Rattle.sx_dump.proofs.ShownPlaces.{function_is, list_is, sums_is}
+use Rattle.sx_dump.proofs.ShownPlaces.{corrections_is, function_is, list_is, sums_is}
 use Rattle.sx_dump.proofs.show.show_section.Goals as goal
 
 pub returns-in-Function-clause-ok : goal.returns-in-Function-clause-ok
@@ -45,3 +45,15 @@ returns-in-Sums-clause-failed g c =
     let same = sums_is (g.B.WordBank.words_of c.args.bank) c.args.name c.args.place.now c.in-Sums.sums c.in-Sums.is in
     subst (λ (lines : List ℕ). OnErr c.show_sums.result (AppendsPrefix (g.O.Sink.written c.args.out.now) (g.O.Sink.written c.show_sums.new.out) (c.args.page.now.bytes ++ lines)))
     same c.show_sums.ensures.failed
+
+pub returns-in-Corrections-clause-ok : goal.returns-in-Corrections-clause-ok
+returns-in-Corrections-clause-ok g c =
+    let same = corrections_is (g.B.WordBank.words_of c.args.bank) c.args.name c.args.place.now c.in-Corrections.corrections c.in-Corrections.is in
+    subst (λ (lines : List ℕ). OnOk c.show_corrections.result (IsShown (g.O.Sink.written c.args.out.now) (g.O.Sink.written c.show_corrections.new.out) (c.args.page.now.bytes ++ lines) c.show_corrections.new.page.bytes))
+    same c.show_corrections.ensures.ok
+
+pub returns-in-Corrections-clause-failed : goal.returns-in-Corrections-clause-failed
+returns-in-Corrections-clause-failed g c =
+    let same = corrections_is (g.B.WordBank.words_of c.args.bank) c.args.name c.args.place.now c.in-Corrections.corrections c.in-Corrections.is in
+    subst (λ (lines : List ℕ). OnErr c.show_corrections.result (AppendsPrefix (g.O.Sink.written c.args.out.now) (g.O.Sink.written c.show_corrections.new.out) (c.args.page.now.bytes ++ lines)))
+    same c.show_corrections.ensures.failed

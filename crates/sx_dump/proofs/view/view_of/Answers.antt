@@ -1,6 +1,6 @@
 use Rattle.std.proofs.Common.{◌≡◌, subst}
 use Rattle.sx_spec_kinds.specs.declared.Kind.TheVariants.{Func}
-use Rattle.sx_dump.specs.Viewing.{IsFuncView, IsHollowDistView, IsHollowView, IsLcp2View, IsLcpView}
+use Rattle.sx_dump.specs.Viewing.{IsFuncView, IsHollowDistView, IsHollowView, IsLcp2View, IsLcpView, IsZfastView}
 use Rattle.sx_dump.proofs.Sections.{func_values, function_there, kind_is}
 use Rattle.sx_dump.proofs.view.view_of.Goals as goal
 
@@ -25,6 +25,7 @@ returns-in-Func g c =
       lcp2 = λ v same. absurd cc;
       hollow = λ v same. absurd cc;
       hollow_dist = λ v same. absurd cc;
+      zfast = λ v same. absurd cc;
     }
 
 pub returns-in-Lcp : goal.returns-in-Lcp
@@ -36,6 +37,7 @@ returns-in-Lcp g c =
       lcp2 = λ v same. absurd cc;
       hollow = λ v same. absurd cc;
       hollow_dist = λ v same. absurd cc;
+      zfast = λ v same. absurd cc;
     }
 
 pub returns-in-Lcp2 : goal.returns-in-Lcp2
@@ -47,6 +49,7 @@ returns-in-Lcp2 g c =
       lcp2 = λ v same. let e : c.lcp2_view.result ≡ v = cc in subst (λ w. IsLcp2View words w) e c.lcp2_view.ensures;
       hollow = λ v same. absurd cc;
       hollow_dist = λ v same. absurd cc;
+      zfast = λ v same. absurd cc;
     }
 
 pub returns-in_ok-hollow_view-in-Hollow : goal.returns-in_ok-hollow_view-in-Hollow
@@ -58,6 +61,7 @@ returns-in_ok-hollow_view-in-Hollow g c =
       lcp2 = λ v same. absurd cc;
       hollow = λ v same. let e : c.in_ok-hollow_view-in-Hollow.field-0 ≡ v = cc in subst (λ w. IsHollowView words w) e c.in_ok-hollow_view-in-Hollow.ensures;
       hollow_dist = λ v same. absurd cc;
+      zfast = λ v same. absurd cc;
     }
 
 pub returns-in_ok-hollow_dist_view-in-HollowDist : goal.returns-in_ok-hollow_dist_view-in-HollowDist
@@ -69,4 +73,17 @@ returns-in_ok-hollow_dist_view-in-HollowDist g c =
       lcp2 = λ v same. absurd cc;
       hollow = λ v same. absurd cc;
       hollow_dist = λ v same. let e : c.in_ok-hollow_dist_view-in-HollowDist.field-0 ≡ v = cc in subst (λ w. IsHollowDistView words w) e c.in_ok-hollow_dist_view-in-HollowDist.ensures;
+      zfast = λ v same. absurd cc;
+    }
+
+pub returns-in-Zfast : goal.returns-in-Zfast
+returns-in-Zfast g c =
+    let words = g.B.WordBank.words_of c.args.bank in
+    record {
+      func = λ v same. absurd cc;
+      lcp = λ v same. absurd cc;
+      lcp2 = λ v same. absurd cc;
+      hollow = λ v same. absurd cc;
+      hollow_dist = λ v same. absurd cc;
+      zfast = λ v same. let e : c.zfast_view.result ≡ v = cc in subst (λ w. IsZfastView words w) e c.zfast_view.ensures;
     }

@@ -2,7 +2,7 @@ use Rattle.std.proofs.Common.{◌≡◌, ◌-◌, ℕ, map, ap, sym, ◌∙◌, 
 use Rattle.std.specs.List.{range_with_len}
 use Rattle.std.specs.Ordering.{is_lt}
 use Rattle.sx_spec.specs.Signature.{signature_cmp}
-use Rattle.sx_sections.specs.Places.{rises, signature_at}
+use Rattle.sx_sig.specs.SignatureWords.{rises, signature_at}
 use Rattle.sx_sections.proofs.Rising.{ends, goes_on, stops}
 use Rattle.sx_sections.proofs.corrections.are_rising.Goals as goal
 

@@ -1,6 +1,6 @@
 use Rattle.std.proofs.Common.{◌≡◌, ◌-◌, map}
 use Rattle.std.specs.List.{range_with_len}
-use Rattle.sx_sections.specs.Places.{rises, signature_at, signatures_at}
+use Rattle.sx_sig.specs.SignatureWords.{rises, signature_at, signatures_at}
 use Rattle.sx_sections.proofs.corrections.are_rising.Given as goal
 
 abbrev pub invariant-loop-i : goal.invariant-loop-i

@@ -15,3 +15,6 @@ reply_by_hollow-requires g c = c.args.self.now.viewed.hollow _ (search rules)
 
 pub reply_by_hollow_dist-requires-clause-dist : goal.reply_by_hollow_dist-requires-clause-dist
 reply_by_hollow_dist-requires-clause-dist g c = c.args.self.now.viewed.hollow_dist _ (search rules)
+
+pub reply_by_zfast-requires : goal.reply_by_zfast-requires
+reply_by_zfast-requires g c = c.args.self.now.viewed.zfast _ (search rules)

@@ -7,9 +7,8 @@ use Rattle.sx_spec.specs.declared.Signature.{Signature}
 use Rattle.sx_spec.specs.Reply.{gaps}
 use Rattle.sx_spec.specs.Signature.{signature}
 use Rattle.sx_spec.specs.StaticFunction.{value_of}
-use Rattle.sx_hollow.specs.Dist.{turns_by}
 use Rattle.sx_hollow.specs.Views.{sums_read}
-use Rattle.sx_lcp.specs.Views.{answers_by, function_read}
+use Rattle.sx_static.specs.Reading.{answers_by, function_read}
 use Rattle.sx_dump.proofs.hollow_dist.HollowDistributor.answer.Goals as goal
 
 -- a string's own signature is that of the string without a tag
@@ -28,7 +27,7 @@ returns-in_err-block-clause-value g c =
     let v = c.args.self.now in
     let x = bits_of c.args.view.now in
     dist_is v.keys (block_size v.log_bucket) (gaps (sums_read v.blocks.left)) (gaps (sums_read v.blocks.skip)) (answers_by v.offsets c.args.seed c.args.sig_bits)
-    (turns_by v.blocks.turns c.args.seed c.args.sig_bits) v.blocks.delimiters x (answers_by v.offsets c.args.seed c.args.sig_bits x) None _
+    (answers_by v.blocks.turns c.args.seed c.args.sig_bits) v.blocks.delimiters x (answers_by v.offsets c.args.seed c.args.sig_bits x) None _
     refl c.in_err-block.ensures.value c.from_residual.ensures
 
 pub returns-clause-value : goal.returns-clause-value
@@ -36,6 +35,6 @@ returns-clause-value g c =
     let v = c.args.self.now in
     let x = bits_of c.args.view.now in
     dist_is _ _ (gaps (sums_read v.blocks.left)) (gaps (sums_read v.blocks.skip)) (answers_by v.offsets c.args.seed c.args.sig_bits)
-    (turns_by v.blocks.turns c.args.seed c.args.sig_bits) v.blocks.delimiters x _ (Some c.in_ok-block.block) _
+    (answers_by v.blocks.turns c.args.seed c.args.sig_bits) v.blocks.delimiters x _ (Some c.in_ok-block.block) _
     (c.answer-offset.ensures.value ∙ ap (value_of (function_read v.offsets)) (untagged c.args.seed c.args.sig_bits x c.args.sig.now c.requires.signed))
     c.in_ok-block.ensures.value c.place_in.ensures
