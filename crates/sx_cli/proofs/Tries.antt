@@ -11,8 +11,8 @@ use Rattle.sx_spec.specs.Layout.{Header, layout}
 use Rattle.sx_spec.specs.Messages.{built_line, failure_text, no_seed_text}
 use Rattle.sx_spec.specs.StaticFunction.{Part, SeedFailure, IsSeedFailure, SeedWorks}
 use Rattle.sx_spec.proofs.Witnesses.{failures_refute_seeds}
-use Rattle.sx_assemble.specs.Assembling.{IsDumpOf, IsFailure, failure_of}
-use Rattle.sx_assemble.specs.declared.PartFault.{PartFault}
+use Rattle.sx_parts.specs.Assembling.{IsDumpOf, IsFailure, failure_of}
+use Rattle.sx_parts.specs.declared.PartFault.{PartFault}
 use Rattle.sx_cli.specs.Building.{parts_for, IsReady, AllFail, FailSoFar}
 
 -- the lines on seeds that fail, one more seed

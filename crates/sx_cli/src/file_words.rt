@@ -7,12 +7,9 @@ ghost use Rattle.sx_cli.specs.FileWords.{file_failed, ReadsWords, TakesWords};
 
 use crate::dump_file::DumpFile;
 use std::alloc::{AllocError, Global};
-use sx_dump::push_words;
+use sx_dump::{MAX_BYTES, push_words};
 use sx_edge::shelf::{Shelf, fill_buffer};
 use sx_edge::source::Failed;
-
-/// How many bytes a dump has at most.
-const MAX_BYTES: u64 = 1_073_741_824;
 
 /// The bytes of a piece.
 const PIECE: usize = 65536;

@@ -81,3 +81,5 @@ mod ranks_tests;
 mod tests;
 #[cfg(test)]
 mod waiting_tests;
+#[cfg(test)]
+mod zfast_tests;

@@ -8,8 +8,9 @@ ghost use Rattle.sx_cli.specs.Building.{IsTried};
 
 use std::alloc::{AllocError, Global};
 use std::sync::ledger::Ledger;
-use sx_assemble::{Assembled, assemble};
+use sx_assemble::assemble;
 use sx_bits::KeyList;
+use sx_parts::Assembled;
 use sx_spec::Plan;
 use sx_steps::Steps;
 use sx_text::failures::push_failure;

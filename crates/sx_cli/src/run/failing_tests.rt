@@ -218,6 +218,22 @@ fn each_call_of_a_hollow_trie_fails(rt: HostRuntime) -> Result<(), Fail> {
 }
 
 #[test]
+fn each_call_of_distributors_fails(rt: HostRuntime) -> Result<(), Fail> {
+    for (line, told) in [
+        ("build hollowdist D --log-bucket 0", 4),
+        ("build zfast D --log-bucket 0", 3),
+    ] {
+        let build = Job::plain(line, b"a\nb\nc\n", b"");
+        let dump = each_call_fails(&rt, rt.alloc(), &build, [3, 3, 3])?;
+        let query = Job::plain("query D", b"a\nb\nc\n", &dump);
+        each_call_fails(&rt, rt.alloc(), &query, [4, 3, 2])?;
+        let open = Job::plain("open D", b"", &dump);
+        each_call_fails(&rt, rt.alloc(), &open, [4, 0, told])?;
+    }
+    Ok(())
+}
+
+#[test]
 fn each_call_of_build_with_values_fails(rt: HostRuntime) -> Result<(), Fail> {
     let job = Job {
         line: "build func D --values V",

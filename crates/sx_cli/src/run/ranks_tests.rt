@@ -6,7 +6,7 @@ use std::process::Abort;
 use std::test::Fail;
 
 /// Builds a dump of these keys, and asks it these lines.
-fn answers(
+pub(super) fn answers(
     rt: &impl Abort,
     alloc: Global,
     line: &str,

@@ -164,7 +164,6 @@ fn rules_of_usage_are_told(rt: HostRuntime) -> Result<(), Fail> {
         ("build lcp D --seeds 1 --seeds 2", "sux: usage: bad words\n"),
         ("build func D --seeds", "sux: usage: bad words\n"),
         ("build tree D", "sux: usage: unknown kind\n"),
-        ("build zfast D", "sux: usage: unknown kind\n"),
         (
             "build func D --sig-bits=193",
             "sux: usage: bad value for --sig-bits\n",
