@@ -1,6 +1,6 @@
 //! The options of `build`: their words.
 
-ghost use Rattle.std.specs.Prelude.{◌≡◌};
+ghost use Rattle.std.specs.Prelude.{◌≡◌, drop};
 ghost use Rattle.sx_spec.specs.Command as usage;
 
 use sx_spec::OptionName;
@@ -20,9 +20,9 @@ pub fn option_word(name: OptionName) -> &'static str
     }
 }
 
-/// Whether the two are one option.
-pub fn same_option(x: OptionName, y: OptionName) -> bool
-    ensures { result ≡ usage.same_option x y }
+/// The word for an option without the two dashes in front.
+pub fn option_id(name: OptionName) -> &'static str
+    ensures { result.now ≡ drop 2 (usage.option_word name) }
 {
-    option_word(x) == option_word(y)
+    &option_word(name)[2..]
 }

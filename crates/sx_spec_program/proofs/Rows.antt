@@ -8,7 +8,11 @@ pub word_examples : WordExamples
 word_examples = record {
   none = refl;
   no_command = refl;
-  not_offered = refl;
+  padded_number = refl;
+  trial_of_no_kind = refl;
+  trial_of_no_number = refl;
+  trial_with_option = refl;
+  query_with_option = refl;
   too_few = refl;
   twice = refl;
   no_handles = refl;
@@ -34,6 +38,7 @@ word_examples = record {
   signed = refl;
   query_words = refl;
   dump_words = refl;
+  trial_words = refl;
 }
 
 pub open_examples : OpenExamples

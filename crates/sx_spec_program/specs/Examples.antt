@@ -1,19 +1,19 @@
--- Worked examples of what a program that offers a part of the whole reads and opens.
+-- Worked examples of what the program reads and opens.
 use Rattle.std.specs.Prelude.{◌≡◌, ℕ, List, [], ◌∷◌, None, Err, codes}
 use Rattle.std.specs.Result.{result_err}
 use Rattle.sx_spec_kinds.specs.declared.Kind.{Kind}
 use Rattle.sx_spec_kinds.specs.declared.Kind.TheVariants.{Func, Lcp, Lcp2, Hollow, HollowDist, Zfast}
 use Rattle.sx_spec.specs.declared.Method.TheVariants.{Mwhc}
 use Rattle.sx_spec.specs.declared.OptionName.TheVariants.{Method as MethodName, LogBucket, SigBits, HandleBits, Signed as SignedName, Values}
-use Rattle.sx_spec.specs.declared.Rule.TheVariants.{NoCommand, UnknownCommand, BadWords, UnknownKind, BadValue, DoesNotGo, SignedAndValues}
-use Rattle.sx_spec.specs.Command.{Text, Task, BuildTask, usage, build, query, show_dump}
+use Rattle.sx_spec.specs.declared.Rule.TheVariants.{NoCommand, UnknownCommand, BadWords, UnknownKind, BadNumber, BadValue, DoesNotGo, SignedAndValues}
+use Rattle.sx_spec.specs.Command.{Text, Task, BuildTask, usage, build, query, show_dump, trial, command}
 use Rattle.sx_spec.specs.Layout.{words_bytes, magic}
-use Rattle.sx_spec_program.specs.Offer.{offered, opened_by}
+use Rattle.sx_spec_program.specs.Offer.{opened_by}
 use Rattle.sx_spec_program.specs.Program.{sux_offer}
 
 -- the words as the program reads them
 abbrev pub reads : List Text → Task
-reads words = offered sux_offer words
+reads words = command words
 
 -- `build` of the file D: a kind with blocks of so many keys by their logarithm, these seeds, and so many bits of signatures
 abbrev pub builds : Kind → ℕ → List ℕ → ℕ → BuildTask
@@ -40,7 +40,11 @@ builds_handles bits =
 pub record WordExamples : Type 0 where
   pub none : reads [] ≡ usage NoCommand
   pub no_command : reads (codes "frob" ∷ []) ≡ usage UnknownCommand
-  pub not_offered : reads (codes "trial" ∷ codes "func" ∷ codes "3" ∷ []) ≡ usage UnknownCommand
+  pub padded_number : reads (codes "trial" ∷ codes "func" ∷ codes "01" ∷ []) ≡ usage BadNumber
+  pub trial_of_no_kind : reads (codes "trial" ∷ codes "tree" ∷ codes "3" ∷ []) ≡ usage UnknownKind
+  pub trial_of_no_number : reads (codes "trial" ∷ codes "func" ∷ []) ≡ usage BadWords
+  pub trial_with_option : reads (codes "trial" ∷ codes "func" ∷ codes "3" ∷ codes "--seeds=1" ∷ []) ≡ usage BadWords
+  pub query_with_option : reads (codes "query" ∷ codes "D" ∷ codes "--seeds" ∷ codes "1" ∷ []) ≡ usage BadWords
   pub too_few : reads (codes "build" ∷ codes "lcp" ∷ []) ≡ usage BadWords
   pub twice : reads (codes "build" ∷ codes "lcp" ∷ codes "D" ∷ codes "--seeds" ∷ codes "1" ∷ codes "--seeds" ∷ codes "2" ∷ []) ≡ usage BadWords
   pub no_handles : reads (codes "build" ∷ codes "lcp" ∷ codes "D" ∷ codes "--handle-bits" ∷ codes "8" ∷ []) ≡ usage (DoesNotGo HandleBits Lcp)
@@ -66,6 +70,7 @@ pub record WordExamples : Type 0 where
   pub signed : reads (codes "build" ∷ codes "hollow" ∷ codes "D" ∷ codes "--signed" ∷ codes "64" ∷ []) ≡ build (builds_signed Hollow 64 (0 ∷ 1 ∷ 2 ∷ 3 ∷ []) 192)
   pub query_words : reads (codes "query" ∷ codes "D" ∷ []) ≡ query (codes "D")
   pub dump_words : reads (codes "dump" ∷ codes "D" ∷ []) ≡ show_dump (codes "D")
+  pub trial_words : reads (codes "trial" ∷ codes "zfast" ∷ codes "1000000" ∷ []) ≡ trial Zfast 1000000
 
 -- the words of an empty hollow dump, of an empty z-fast dump with handles of 32 bits, of the header of a dump of no kind, of an empty function with a signed width
 -- and without the list that is kept, of the same with a width that is too large, and of the same with the list

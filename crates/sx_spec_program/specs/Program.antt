@@ -1,25 +1,22 @@
 -- What this program offers, and the program that offers so much.
-use Rattle.std.specs.Prelude.{◌≡◌, ◌≢◌, ◌≤◌, ℕ, true, false, List, [], ◌∷◌, Option, None, option_map, codes}
+use Rattle.std.specs.Prelude.{◌≡◌, ◌≢◌, ◌≤◌, ℕ, true, false, List, [], ◌∷◌, Option, None, option_map}
 use Rattle.std.specs.Result.{result_err}
 use Rattle.sx_spec_kinds.specs.declared.Kind.TheVariants.{Func, Lcp, Lcp2, Hollow, HollowDist, Zfast}
 use Rattle.sx_spec.specs.declared.Method.TheVariants.{Mwhc}
-use Rattle.sx_spec.specs.declared.OptionName.TheVariants.{Seeds, Method as MethodName, LogBucket, SigBits, HandleBits, Signed, Values}
 use Rattle.sx_spec.specs.declared.Plan.{Plan}
-use Rattle.sx_spec.specs.Command.{Text, BuildTask}
+use Rattle.sx_spec.specs.Command.{Text, BuildTask, command}
 use Rattle.sx_spec.specs.Keys.{standard_limits}
 use Rattle.sx_spec.specs.Kinds.{uses_buckets, uses_handles, uses_method}
 use Rattle.sx_spec.specs.Messages.{key_text, seeds_text, check_text, fault_text}
 use Rattle.sx_spec.specs.Outcomes.{Profile}
 use Rattle.sx_spec.specs.Parts.{least_width}
-use Rattle.sx_spec_program.specs.Offer.{Offer, offered, offers_kind, opened_by}
+use Rattle.sx_spec_program.specs.Offer.{Offer, offers_kind, opened_by}
 
--- what sux offers: static functions with values, the kinds lcp, lcp2, hollowdist and zfast in blocks, and hollow tries; functions are
--- built by either method, and each kind may be signed
+-- the dumps that sux builds and opens: static functions with values, the kinds lcp, lcp2, hollowdist and zfast in blocks, and hollow
+-- tries; functions are built by either method, and each kind may be signed
 abbrev pub sux_offer : Offer
 sux_offer = record {
-  commands = codes "build" ∷ codes "query" ∷ codes "open" ∷ codes "dump" ∷ [];
   kinds = Func ∷ Lcp ∷ Lcp2 ∷ Hollow ∷ HollowDist ∷ Zfast ∷ [];
-  options = Seeds ∷ MethodName ∷ LogBucket ∷ SigBits ∷ HandleBits ∷ Signed ∷ Values ∷ [];
   signed = 64;
 }
 
@@ -44,10 +41,10 @@ pub record IsOfferedBuild (b : BuildTask) : Type 0 where
 abbrev pub offered_fault : Offer → List ℕ → Option Text
 offered_fault offer bytes = option_map check_text (result_err (opened_by offer bytes))
 
--- a program that offers so much: 64 tries, values as wide as the greatest of them, and every message
+-- a program that offers so much: all commands, 64 tries, values as wide as the greatest of them, and every message
 abbrev pub program : Offer → Profile
 program offer = record {
-  command = offered offer;
+  command = command;
   limits = standard_limits;
   tries = 64;
   value_width = least_width;
