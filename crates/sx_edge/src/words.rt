@@ -1,5 +1,5 @@
 //! The words of a command line.
-ghost use Rattle.std.specs.Prelude.{◌≡◌, ◌<◌, ◌++◌, [], ◌∷◌, length, slice_index_or, OnOk, OnErr};
+ghost use Rattle.std.specs.Prelude.{◌≡◌, ◌<◌, ◌≤◌, ◌++◌, [], ◌∷◌, length, map, drop, slice_index_or, string_bytes, OnOk, OnErr};
 
 use std::alloc::{AllocError, Global};
 use std::marker::Model;
@@ -53,5 +53,13 @@ impl WordList {
         ensures { result.now ≡ slice_index_or self.now i [] }
     {
         self.words[i].as_str()
+    }
+
+    /// The words behind so many.
+    pub fn after(&self, count: usize) -> &[String]
+        requires { count ≤ length self.now }
+        ensures { map (λ word. string_bytes word) result.now ≡ drop count self.now }
+    {
+        &self.words[count..]
     }
 }

@@ -1,5 +1,5 @@
 pub mod Tasks
 pub mod Commands
-pub mod Pieces
-pub mod Seen
+pub mod Parsers
+pub mod Arguments
 pub mod Rules

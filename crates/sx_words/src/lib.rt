@@ -1,16 +1,18 @@
-//! What the words of a command line are to do: the task of the program, or the first rule of usage that they break.
+//! What the words of a command line are to do: the task of the program, or the first rule of
+//! usage that they break.
 #![tactic(auto)]
 
 ghost use Rattle.std.specs.Prelude.{◌≡◌, IfOk};
 
+mod arguments;
 mod build;
 mod names;
 mod options;
 mod read;
 mod seeds;
-mod split;
 #[cfg(test)]
 mod tests;
+mod trial;
 
 pub use read::read_words;
 pub use seeds::Seeds;
@@ -72,4 +74,6 @@ pub enum Task {
     Open(Name),
     /// Show the dump of this name.
     Dump(Name),
+    /// Build and ask a dump of so many made keys.
+    Trial { kind: Kind, keys: u32 },
 }

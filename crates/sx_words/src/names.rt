@@ -6,7 +6,6 @@ ghost use Rattle.sx_spec.specs.Command as usage;
 ghost use Rattle.sx_words.specs.Commands.{command_word, commands};
 
 use sx_kinds::kinds::{kind_word, method_word};
-use sx_kinds::options::option_word;
 use sx_spec::{Kind, Method, OptionName};
 
 /// The commands.
@@ -16,10 +15,17 @@ pub enum Command {
     Query,
     Open,
     Dump,
+    Trial,
 }
 
-/// The commands that are offered.
-const COMMANDS: [Command; 4] = [Command::Build, Command::Query, Command::Open, Command::Dump];
+/// All commands.
+const COMMANDS: [Command; 5] = [
+    Command::Build,
+    Command::Query,
+    Command::Open,
+    Command::Dump,
+    Command::Trial,
+];
 
 /// All options of `build`, in the order in which they are judged.
 pub const OPTIONS: [OptionName; 7] = [
@@ -46,7 +52,7 @@ const KINDS: [Kind; 6] = [
 const METHODS: [Method; 2] = [Method::Mwhc, Method::Gov3];
 
 /// The word for a command.
-fn command_word(command: Command) -> &'static str
+pub fn command_word(command: Command) -> &'static str
     ensures { result.now ≡ command_word command }
 {
     match command {
@@ -54,10 +60,11 @@ fn command_word(command: Command) -> &'static str
         Command::Query => "query",
         Command::Open => "open",
         Command::Dump => "dump",
+        Command::Trial => "trial",
     }
 }
 
-/// The command with this word, if it is offered.
+/// The command with this word.
 pub fn command_named(word: &str) -> Option<Command>
     ensures { result ≡ find (λ command. bytes_eq (command_word command) word.now) commands }
 {
@@ -65,16 +72,6 @@ pub fn command_named(word: &str) -> Option<Command>
         .iter()
         .copied()
         .find(|command| command_word(*command) == word)
-}
-
-/// The option with this word.
-pub fn option_named(word: &str) -> Option<OptionName>
-    ensures { result ≡ usage.option_named word.now }
-{
-    OPTIONS
-        .iter()
-        .copied()
-        .find(|name| option_word(*name) == word)
 }
 
 /// The kind with this word.

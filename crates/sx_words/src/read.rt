@@ -1,66 +1,48 @@
 //! The task of a command line's words.
 
-ghost use Rattle.std.specs.Prelude.{◌≡◌, ◌≤◌, IfOk, length, drop};
-ghost use Rattle.sx_spec_program.specs.Offer.{offered};
-ghost use Rattle.sx_spec_program.specs.Program.{sux_offer};
-ghost use Rattle.sx_words.specs.Rules.{only_word, dump_task};
+ghost use Rattle.std.specs.Prelude.{◌≡◌, IfOk, length};
+ghost use Rattle.sx_spec.specs.Command.{command as command_of};
+ghost use Rattle.sx_words.specs.Parsers.{positional_ids};
+ghost use Rattle.sx_words.specs.Rules.{task_with as task_of_command};
 ghost use Rattle.sx_words.specs.Tasks.{task_of};
 
-use crate::build::read_build;
+use crate::arguments::{Arguments, read_arguments};
+use crate::build::task_of_build;
 use crate::names::{Command, command_named};
-use crate::split::is_no_value;
+use crate::trial::task_of_trial;
 use crate::{Name, Task};
 use std::alloc::{AllocError, Global};
 use sx_edge::words::WordList;
 use sx_spec::Rule;
 
-/// The one word after the command, if it is a positional word and the only one.
-fn read_only_word(alloc: Global, words: &WordList) -> Result<Option<Name>, AllocError>
-    requires { 1 ≤ length words.now }
-    ensures { IfOk result (λ name. name ≡ only_word (drop 1 words.now)) }
+/// What a command with these words is to do.
+fn task_with(alloc: Global, command: Command, arguments: &Arguments<'_>) -> Result<Task, AllocError>
+    requires { length arguments.now.positional ≡ length (positional_ids command) }
+    ensures { IfOk result (λ task. task_of task ≡ task_of_command command arguments.now) }
 {
-    if words.len() != 2 || is_no_value(words.get(1)) {
-        return Ok(None);
+    match command {
+        Command::Build => task_of_build(alloc, arguments),
+        Command::Query => Ok(Task::Query(Name::new(alloc, arguments.positional(0))?)),
+        Command::Open => Ok(Task::Open(Name::new(alloc, arguments.positional(0))?)),
+        Command::Dump => Ok(Task::Dump(Name::new(alloc, arguments.positional(0))?)),
+        Command::Trial => Ok(task_of_trial(arguments)),
     }
-    Ok(Some(Name::new(alloc, words.get(1))?))
-}
-
-/// The task of a command over one dump. `build` isn't one.
-fn task_over(command: Command, name: Option<Name>) -> Task
-    ensures { task_of result ≡ dump_task command name }
-{
-    match (command, name) {
-        (Command::Query, Some(dump)) => Task::Query(dump),
-        (Command::Open, Some(dump)) => Task::Open(dump),
-        (Command::Dump, Some(dump)) => Task::Dump(dump),
-        _ => Task::Usage(Rule::BadWords),
-    }
-}
-
-/// The task of a command over one dump, whose word is the first. `build` isn't one.
-fn read_over(alloc: Global, command: Command, words: &WordList) -> Result<Task, AllocError>
-    requires { 1 ≤ length words.now }
-    ensures { IfOk result
-        (λ task. task_of task ≡ dump_task command (only_word (drop 1 words.now))) }
-{
-    let name = read_only_word(alloc, words)?;
-    Ok(task_over(command, name))
 }
 
 /// What the words of a command line are to do.
 ///
 /// Answers `Usage` with the first rule that they break. Want of memory is the only refusal.
 pub fn read_words(alloc: Global, words: &WordList) -> Result<Task, AllocError>
-    ensures { IfOk result (λ task. task_of task ≡ offered sux_offer words.now) }
+    ensures { IfOk result (λ task. task_of task ≡ command_of words.now) }
 {
     if words.len() == 0 {
         return Ok(Task::Usage(Rule::NoCommand));
     }
-    match command_named(words.get(0)) {
-        None => Ok(Task::Usage(Rule::UnknownCommand)),
-        Some(Command::Build) => read_build(alloc, words),
-        Some(Command::Query) => read_over(alloc, Command::Query, words),
-        Some(Command::Open) => read_over(alloc, Command::Open, words),
-        Some(Command::Dump) => read_over(alloc, Command::Dump, words),
+    let Some(command) = command_named(words.get(0)) else {
+        return Ok(Task::Usage(Rule::UnknownCommand));
+    };
+    match read_arguments(alloc, command, words.after(1))? {
+        Some(arguments) => task_with(alloc, command, &arguments),
+        None => Ok(Task::Usage(Rule::BadWords)),
     }
 }
