@@ -60,12 +60,3 @@ pub fn assemble<L: Ledger>(
         Kind::Zfast => assemble_zfast(alloc, keys, plan, seed, steps),
     }
 }
-
-#[cfg(test)]
-mod correction_tests;
-#[cfg(test)]
-mod ranked_tests;
-#[cfg(test)]
-mod tests;
-#[cfg(test)]
-mod zfast_tests;

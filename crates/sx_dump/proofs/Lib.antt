@@ -1,5 +1,4 @@
 pub mod CorrectionWords
-pub mod Pieces
 pub mod Openings
 pub mod Replies
 pub mod SumsOnes
@@ -8,5 +7,4 @@ pub mod Showing
 pub mod ShownPlaces
 pub mod Tables
 pub mod Texts
-pub mod WordPieces
 pub mod ZfastSections

@@ -109,7 +109,7 @@ impl<B: WordBank + Copy> Dump<B> {
     /// The reply to a string of at least eight bits, which goes by the kind. A signature of the string
     /// is made once, and none where the kind makes none and the dump isn't signed.
     #[inline(always)]
-    fn string_reply<L: Ledger>(&self, key: &BitView<'_>, steps: &mut Steps<L>) -> Option<u64>
+    pub fn string_reply<L: Ledger>(&self, key: &BitView<'_>, steps: &mut Steps<L>) -> Option<u64>
         requires { 8 ≤ length (bits_of key.now) }
         ensures value { result
             ≡ string_reply (dump_in (B.words_of self.now.bank)) (bits_of key.now) }

@@ -1,4 +1,0 @@
-use Rattle.sx_assemble.proofs.tests.assembled.Given as goal
-
-abbrev pub ghosts-assembled_under : goal.ghosts-assembled_under
-ghosts-assembled_under g a = record { name = a.blank.name; parts = a.blank.parts }

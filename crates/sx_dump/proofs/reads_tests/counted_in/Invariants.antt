@@ -1,4 +1,0 @@
-use Rattle.sx_dump.proofs.reads_tests.counted_in.Given as goal
-
-abbrev pub ghosts-reply_under : goal.ghosts-reply_under
-ghosts-reply_under a = record { name = a.blank.name; parts = a.blank.parts }
