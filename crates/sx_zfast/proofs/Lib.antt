@@ -18,3 +18,5 @@ pub mod SignatureOrder
 pub mod MapNodes
 pub mod SearchTurns
 pub mod BlockCases
+pub mod Longest
+pub mod Beyond

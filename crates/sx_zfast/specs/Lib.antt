@@ -4,3 +4,4 @@ pub mod Parts
 pub mod Corrected
 pub mod Views
 pub mod Memo
+pub mod Largest

@@ -16,6 +16,7 @@ use crate::blocks::block_from;
 use crate::memo::Memo;
 use crate::parts::ZfastParts;
 use crate::probing::{first_false_probe, probed_search};
+use crate::reach::Reach;
 use crate::signing::Signing;
 use crate::ways::{Way, Ways};
 use std::alloc::{AllocError, Global};
@@ -62,7 +63,7 @@ fn shared_with_last(keys: &KeyList, key: u32) -> u32
 /// are two delimiters or more.
 fn correction<B: WordBank + Copy, L: Ledger>(
     keys: &KeyList,
-    trie: &Trie,
+    reach: &Reach<'_>,
     parts: &ZfastParts,
     way: &Way<'_>,
     block: u32,
@@ -72,33 +73,35 @@ fn correction<B: WordBank + Copy, L: Ledger>(
     memo: &mut Memo,
     steps: &mut Steps<L>,
 ) -> Option<Corrected>
-    requires built { IsTrieOf keys.now.lines trie.now }
-    requires some { 1 < length trie.now.delimiters }
-    requires parts { AreZfastParts keys.now.lines trie.now.delimiters parts.now }
+    requires built { IsTrieOf keys.now.lines reach.now.trie.now }
+    requires some { 1 < length reach.now.trie.now.delimiters }
+    requires parts { AreZfastParts keys.now.lines reach.now.trie.now.delimiters parts.now }
     requires key { key < length keys.now.lines }
-    requires block { block ≡ key_block keys.now.lines trie.now.delimiters key }
-    requires way { IsWayOf (extents_of (delimiter_bits keys.now.lines trie.now.delimiters))
+    requires block { block ≡ key_block keys.now.lines reach.now.trie.now.delimiters key }
+    requires way { IsWayOf
+        (extents_of (delimiter_bits keys.now.lines reach.now.trie.now.delimiters))
         (key_at keys.now.lines key) way.now.shared way.now.nodes.now }
     requires knows { KnowsHandles (map_read map.now signing.seed signing.sig_bits)
-        (handles_of (extents_of (delimiter_bits keys.now.lines trie.now.delimiters))) }
+        (handles_of (extents_of (delimiter_bits keys.now.lines reach.now.trie.now.delimiters))) }
     requires memo { AreKnown (map_read map.now signing.seed signing.sig_bits)
         (key_at keys.now.lines key) memo.old.slots }
     ensures value { option_map corrected_as result
         ≡ correction_of (map_read map.now signing.seed signing.sig_bits)
-        (delimiter_bits keys.now.lines trie.now.delimiters) key (key_at keys.now.lines key) }
+        (delimiter_bits keys.now.lines reach.now.trie.now.delimiters) key
+        (key_at keys.now.lines key) }
     ensures memo { AreKnown (map_read map.now signing.seed signing.sig_bits)
         (key_at keys.now.lines key) memo.new.slots }
     ensures counted { steps.old ≤ steps.new }
 {
     let view = keys.view(key);
-    let node = probed_search(keys, trie, way, map, &view, signing, memo, steps);
+    let node = probed_search(keys, reach, way, map, &view, signing, memo, steps);
     let code = u64::from(parts.codes[key as usize]);
-    if is_block(block, block_from(&trie.node(node), code, &view)) {
+    if is_block(block, block_from(&reach.trie.node(node), code, &view)) {
         return None;
     }
     Some(Corrected {
         rank: key,
-        probe: first_false_probe(keys, trie, way, map, &view, signing, steps),
+        probe: first_false_probe(keys, reach, way, map, &view, signing, steps),
         block,
     })
 }
@@ -137,6 +140,7 @@ pub fn corrections<B: WordBank + Copy, L: Ledger>(
         return Ok(list);
     }
     let signing = Signing { seed, sig_bits };
+    let reach = Reach::of(trie);
     let mut ways = Ways::new(alloc, keys, trie)?;
     let mut memo = Memo::new();
     for key in 0..keys.len() {
@@ -145,7 +149,7 @@ pub fn corrections<B: WordBank + Copy, L: Ledger>(
         let block = ways.block;
         memo.go_on(shared_with_last(keys, key));
         if let Some(found) = correction(
-            keys, trie, parts, &way, block, map, key, signing, &mut memo, steps,
+            keys, &reach, parts, &way, block, map, key, signing, &mut memo, steps,
         ) {
             list.push(found)?;
         }

@@ -10,6 +10,7 @@ mod correcting;
 mod memo;
 mod parts;
 mod probing;
+mod reach;
 mod signing;
 mod view;
 mod ways;

@@ -13,6 +13,7 @@ ghost use Rattle.sx_zfast.specs.Memo.{AreKnown};
 ghost use Rattle.sx_zfast.specs.Ways.{IsWayOf};
 
 use crate::memo::Memo;
+use crate::reach::Reach;
 use crate::signing::Signing;
 use crate::ways::Way;
 use std::sync::ledger::Ledger;
@@ -96,7 +97,7 @@ fn reached(trie: &Trie, answer: Option<u64>, len: u32) -> Option<u32>
 /// The node at which the search of a key that goes on this way ends, where it asks the map.
 pub(crate) fn probed_search<B: WordBank + Copy, L: Ledger>(
     keys: &KeyList,
-    trie: &Trie,
+    reach: &Reach<'_>,
     way: &Way<'_>,
     map: &SignedView<B>,
     view: &BitView<'_>,
@@ -104,21 +105,23 @@ pub(crate) fn probed_search<B: WordBank + Copy, L: Ledger>(
     memo: &mut Memo,
     steps: &mut Steps<L>,
 ) -> u32
-    requires built { IsTrieOf keys.now.lines trie.now }
-    requires some { 1 < length trie.now.delimiters }
-    requires way { IsWayOf (extents_of (delimiter_bits keys.now.lines trie.now.delimiters))
+    requires built { IsTrieOf keys.now.lines reach.now.trie.now }
+    requires some { 1 < length reach.now.trie.now.delimiters }
+    requires way { IsWayOf
+        (extents_of (delimiter_bits keys.now.lines reach.now.trie.now.delimiters))
         (bits_of view.now) way.now.shared way.now.nodes.now }
     requires knows { KnowsHandles (map_read map.now signing.seed signing.sig_bits)
-        (handles_of (extents_of (delimiter_bits keys.now.lines trie.now.delimiters))) }
+        (handles_of (extents_of (delimiter_bits keys.now.lines reach.now.trie.now.delimiters))) }
     requires memo { AreKnown (map_read map.now signing.seed signing.sig_bits)
         (bits_of view.now) memo.old.slots }
     ensures value { result ≡ (probed_search_of (map_read map.now signing.seed signing.sig_bits)
-        (mapped (λ w. w.extent) trie.now.nodes) (bits_of view.now)).node }
-    ensures inside { result < length trie.now.nodes }
+        (mapped (λ w. w.extent) reach.now.trie.now.nodes) (bits_of view.now)).node }
+    ensures inside { result < length reach.now.trie.now.nodes }
     ensures memo { AreKnown (map_read map.now signing.seed signing.sig_bits)
         (bits_of view.now) memo.new.slots }
     ensures counted { steps.old ≤ steps.new }
 {
+    let trie = reach.trie;
     let mut at = 0;
     let mut limit = view.len();
     loop {
@@ -127,6 +130,10 @@ pub(crate) fn probed_search<B: WordBank + Copy, L: Ledger>(
             return at;
         }
         let len = fattest(depth, limit);
+        if len > reach.longest {
+            limit = len - 1;
+            continue;
+        }
         let answer = answered(way, map, view, len, signing, memo, steps);
         match reached(trie, answer, len) {
             Some(node) => at = node,
@@ -139,22 +146,24 @@ pub(crate) fn probed_search<B: WordBank + Copy, L: Ledger>(
 /// at which the map misleads; 0 where there is none.
 pub(crate) fn first_false_probe<B: WordBank + Copy, L: Ledger>(
     keys: &KeyList,
-    trie: &Trie,
+    reach: &Reach<'_>,
     way: &Way<'_>,
     map: &SignedView<B>,
     view: &BitView<'_>,
     signing: Signing,
     steps: &mut Steps<L>,
 ) -> u32
-    requires built { IsTrieOf keys.now.lines trie.now }
-    requires some { 1 < length trie.now.delimiters }
-    requires way { IsWayOf (extents_of (delimiter_bits keys.now.lines trie.now.delimiters))
+    requires built { IsTrieOf keys.now.lines reach.now.trie.now }
+    requires some { 1 < length reach.now.trie.now.delimiters }
+    requires way { IsWayOf
+        (extents_of (delimiter_bits keys.now.lines reach.now.trie.now.delimiters))
         (bits_of view.now) way.now.shared way.now.nodes.now }
     ensures value { let m = map_read map.now signing.seed signing.sig_bits in
-        let extents = extents_of (delimiter_bits keys.now.lines trie.now.delimiters) in
+        let extents = extents_of (delimiter_bits keys.now.lines reach.now.trie.now.delimiters) in
         result ≡ slice_index (false_probes m extents (bits_of view.now)) 0 }
     ensures counted { steps.old ≤ steps.new }
 {
+    let trie = reach.trie;
     let mut at = 0;
     let mut limit = view.len();
     loop {
@@ -163,6 +172,10 @@ pub(crate) fn first_false_probe<B: WordBank + Copy, L: Ledger>(
             return 0;
         }
         let len = fattest(depth, limit);
+        if len > reach.longest {
+            limit = len - 1;
+            continue;
+        }
         match way.handled(len) {
             Some(node) => match reached(trie, Some(u64::from(node)), len) {
                 Some(node) => at = node,

@@ -8,7 +8,9 @@ ghost use Rattle.sx_spec_kinds.specs.Search.{reached as reached_of};
 ghost use Rattle.sx_spec_kinds.specs.Zfast.{probed_node, probed_search_of, zfast_block};
 ghost use Rattle.sx_bits.specs.Views.{bits_of};
 ghost use Rattle.sx_static.specs.Reading.{answers_by};
+ghost use Rattle.sx_steps.specs.Blanks.{IsBlankOf};
 ghost use Rattle.sx_trie.specs.Tries.{node_of};
+ghost use Rattle.sx_zfast.specs.Largest.{largest};
 ghost use Rattle.sx_zfast.specs.Maps.{map_read, numbers_read};
 
 use crate::blocks::block_from;
@@ -16,7 +18,8 @@ use crate::corrected::Corrections;
 use crate::probing::probed;
 use crate::signing::Signing;
 use std::alloc::AllocError;
-use std::sync::ledger::Ledger;
+use std::marker::Brand;
+use std::sync::ledger::{Blank, Ledger};
 use sx_bits::BitView;
 use sx_fields::bank::WordBank;
 use sx_fields::fields::Fields;
@@ -46,6 +49,8 @@ pub struct ZfastView<B: WordBank + Copy> {
     pub codes: FuncView<B>,
     /// The blocks of the keys that are misled.
     pub corrections: Corrections<B>,
+    /// The length of the longest extent, beyond which no prefix leads to a node, or 0.
+    longest: u32,
     ghost few: { delimiters < 2 ^ 32 },
     ghost all_extents: { length (numbers_read extents) ≡ delimiters - 1 },
     ghost all_firsts: { length (numbers_read firsts) ≡ delimiters - 1 },
@@ -56,6 +61,7 @@ pub struct ZfastView<B: WordBank + Copy> {
     ghost narrow_firsts: { firsts.width ≤ 32 },
     ghost narrow_middles: { middles.width ≤ 32 },
     ghost narrow_afters: { afters.width ≤ 32 },
+    ghost longest_extent: { longest ≡ largest (numbers_read extents) },
 }
 
 impl<B: WordBank + Copy> Clone for ZfastView<B> {
@@ -89,12 +95,35 @@ fn read_narrow<B: WordBank + Copy, L: Ledger>(
     list.read(i, steps) as u32
 }
 
+/// What `largest_in` finds, with a count of its own.
+fn largest_counted<B: WordBank + Copy, L: Ledger>(list: &Packed<B>, blank: Blank) -> u32
+    requires blank { IsBlankOf L.Ledger blank }
+    requires narrow { list.now.width ≤ 32 }
+    ensures { result ≡ largest (numbers_read list.now) }
+{
+    let mut steps = Steps::<L>::new(blank);
+    let mut most: u32 = 0;
+    for i in 0..list.len() {
+        most = most.max(read_narrow(list, i, &mut steps));
+    }
+    most
+}
+
+/// The largest number of a list of numbers of at most 32 bits, all of which are read; 0 where there
+/// are none.
+fn largest_in<B: WordBank + Copy>(list: &Packed<B>) -> u32
+    requires { list.now.width ≤ 32 }
+    ensures { result ≡ largest (numbers_read list.now) }
+{
+    largest_counted::<B, Brand>(list, Blank::new(1))
+}
+
 impl<B: WordBank + Copy> ZfastView<B> {
     ghost use Rattle.sx_zfast.specs.Views.{corrected_by, nodes_read};
 
     /// The distributor by fewer than 2 to the power 32 delimiters, by the lists of the inner nodes,
     /// one less than delimiters and of at most 32 bits each, the map of the handles, another one
-    /// less, the function of the codes, and the corrections.
+    /// less, the function of the codes, and the corrections. All extents are read.
     pub fn new(
         delimiters: u64,
         extents: Packed<B>,
@@ -124,6 +153,7 @@ impl<B: WordBank + Copy> ZfastView<B> {
         ensures codes { result.codes ≡ codes }
         ensures corrections { result.corrections ≡ corrections }
     {
+        let longest = largest_in(&extents);
         ZfastView {
             delimiters,
             extents,
@@ -133,6 +163,7 @@ impl<B: WordBank + Copy> ZfastView<B> {
             map,
             codes,
             corrections,
+            longest,
         }
     }
 
@@ -201,7 +232,8 @@ impl<B: WordBank + Copy> ZfastView<B> {
     }
 
     /// Where the first `len` bits of a string lead: to the node that the map answers, where its
-    /// extent has at least so many bits. At most 12 words are read.
+    /// extent has at least so many bits. At most 12 words are read. Beyond the longest extent none is,
+    /// and nothing is signed.
     #[inline(always)]
     fn reached<L: Ledger>(
         &self,
@@ -221,6 +253,9 @@ impl<B: WordBank + Copy> ZfastView<B> {
         ensures counted { steps.old ≤ steps.new }
         ensures cost { steps.new ≤ steps.old + 12 }
     {
+        if len > self.longest {
+            return None;
+        }
         let node = probed(&self.map, view, len, signing, steps)? as usize;
         let extent = read_narrow(&self.extents, node, steps);
         if len <= extent {

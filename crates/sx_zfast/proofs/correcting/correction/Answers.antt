@@ -15,7 +15,7 @@ use Rattle.sx_zfast.proofs.correcting.correction.Goals as goal
 pub index-requires : goal.index-requires
 index-requires g c =
     let lines = c.args.keys.now.lines in
-    let ds = delimiter_bits lines c.args.trie.now.delimiters in
+    let ds = delimiter_bits lines c.args.reach.now.trie.now.delimiters in
     let size = codes_count lines ds c.args.parts.now.codes.items c.requires.parts.codes in
     let inside = c.requires.key in
     omega arith
@@ -24,19 +24,19 @@ pub probed_search-node-requires-clause-way : goal.probed_search-node-requires-cl
 probed_search-node-requires-clause-way g c =
     let lines = c.args.keys.now.lines in
     let own : bits_of c.view-view.result ≡ key_at lines c.args.key = view_bits lines c.args.key (bits_of c.view-view.result) c.requires.key c.view-view.ensures in
-    subst (λ (x : Bits). IsWayOf (extents_of (delimiter_bits lines c.args.trie.now.delimiters)) x c.args.way.now.shared c.args.way.now.nodes.now) (sym own) c.requires.way
+    subst (λ (x : Bits). IsWayOf (extents_of (delimiter_bits lines c.args.reach.now.trie.now.delimiters)) x c.args.way.now.shared c.args.way.now.nodes.now) (sym own) c.requires.way
 
 pub first_false_probe-requires-clause-way : goal.first_false_probe-requires-clause-way
 first_false_probe-requires-clause-way g c =
     let lines = c.args.keys.now.lines in
     let own : bits_of c.view-view.result ≡ key_at lines c.args.key = view_bits lines c.args.key (bits_of c.view-view.result) c.requires.key c.view-view.ensures in
-    subst (λ (x : Bits). IsWayOf (extents_of (delimiter_bits lines c.args.trie.now.delimiters)) x c.args.way.now.shared c.args.way.now.nodes.now) (sym own) c.requires.way
+    subst (λ (x : Bits). IsWayOf (extents_of (delimiter_bits lines c.args.reach.now.trie.now.delimiters)) x c.args.way.now.shared c.args.way.now.nodes.now) (sym own) c.requires.way
 
 pub returns-then-is_block-clause-value : goal.returns-then-is_block-clause-value
 returns-then-is_block-clause-value g c =
     let m = map_read c.args.map.now c.args.signing.seed c.args.signing.sig_bits in
     let lines = c.args.keys.now.lines in
-    let t = c.args.trie.now in
+    let t = c.args.reach.now.trie.now in
     let ds = delimiter_bits lines t.delimiters in
     let x = key_at lines c.args.key in
     let own : bits_of c.view-view.result ≡ x = view_bits lines c.args.key (bits_of c.view-view.result) c.requires.key c.view-view.ensures in
@@ -61,7 +61,7 @@ pub returns-clause-value : goal.returns-clause-value
 returns-clause-value g c =
     let m = map_read c.args.map.now c.args.signing.seed c.args.signing.sig_bits in
     let lines = c.args.keys.now.lines in
-    let t = c.args.trie.now in
+    let t = c.args.reach.now.trie.now in
     let ds = delimiter_bits lines t.delimiters in
     let x = key_at lines c.args.key in
     let own : bits_of c.view-view.result ≡ x = view_bits lines c.args.key (bits_of c.view-view.result) c.requires.key c.view-view.ensures in

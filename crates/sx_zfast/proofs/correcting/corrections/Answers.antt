@@ -1,6 +1,6 @@
 use Rattle.std.proofs.Common.{◌≡◌, ◌+◌, ◌-◌, ℕ, List, Vec, Global, refl, sym, ap, subst, ◌∙◌, arith}
 use Rattle.std.specs.Prelude.{option_map}
-use Rattle.sx_trie.specs.Tries.{delimiter_bits}
+use Rattle.sx_trie.specs.Tries.{Contents, delimiter_bits}
 use Rattle.sx_zfast.specs.Corrected.{corrected_as, correction_of}
 use Rattle.sx_zfast.specs.Maps.{map_read}
 use Rattle.sx_zfast.specs.Memo.{AreKnown}
@@ -38,7 +38,8 @@ loop-key-preserved g c =
     let count = c.len-key-end.ensures.value in
     let less = c.loop-key-test.true in
     let is : option_map corrected_as c.correction.result ≡ correction_of m ds c.loop-key.key (key_at lines c.loop-key.key) =
-    c.correction.ensures.value ∙ ap (λ (ns : List ℕ). correction_of m (delimiter_bits lines ns) c.loop-key.key (key_at lines c.loop-key.key)) c.requires.same
+    c.correction.ensures.value
+    ∙ ap (λ (ns : List ℕ). correction_of m (delimiter_bits lines ns) c.loop-key.key (key_at lines c.loop-key.key)) (ap (λ (t : Contents). t.delimiters) c.of-reach.ensures ∙ c.requires.same)
     in
     record {
       counted = omega arith;

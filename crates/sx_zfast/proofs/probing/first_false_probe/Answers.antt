@@ -4,6 +4,7 @@ use Rattle.sx_spec_kinds.specs.Trie.{Node}
 use Rattle.sx_spec_kinds.specs.Search.{handle_node, handles_of, reached}
 use Rattle.sx_bits.specs.Views.{bits_of}
 use Rattle.sx_zfast.specs.Maps.{map_read}
+use Rattle.sx_zfast.proofs.Beyond.{telling_beyond}
 use Rattle.sx_zfast.proofs.ProbeStages.{lens_in, extents_in, is_trie, nodes_some, telling_starts, telling_ends, telling_finds, telling_onward, telling_shorter, handle_no_probe, other_probe, none_reached, deeper}
 use Rattle.sx_zfast.proofs.probing.first_false_probe.Goals as goal
 
@@ -12,24 +13,41 @@ loop-limit-init g c =
     let size = c.len-limit.ensures.value in
     record {
       counted = omega arith;
-      inside = nodes_some c.args.keys.now.lines c.args.trie.now c.requires.built c.requires.some;
+      inside = nodes_some c.args.keys.now.lines c.args.reach.now.trie.now c.requires.built c.requires.some;
       limit = omega arith;
-      search = telling_starts (map_read c.args.map.now c.args.signing.seed c.args.signing.sig_bits) c.args.keys.now.lines c.args.trie.now (bits_of c.args.view.now) _ c.requires.built size;
+      search = telling_starts (map_read c.args.map.now c.args.signing.seed c.args.signing.sig_bits) c.args.keys.now.lines c.args.reach.now.trie.now (bits_of c.args.view.now) _ c.requires.built size;
     }
 
 pub returns-then-limit-depth-clause-value : goal.returns-then-limit-depth-clause-value
 returns-then-limit-depth-clause-value g c =
-    telling_ends (map_read c.args.map.now c.args.signing.seed c.args.signing.sig_bits) c.args.keys.now.lines c.args.trie.now (bits_of c.args.view.now) c.loop-limit.at c.loop-limit.limit c.node-depth.result.extent c.loop-limit.invariant.search (ap (λ (n : Node). n.extent) c.node-depth.ensures) c.if-limit-depth.true
+    telling_ends (map_read c.args.map.now c.args.signing.seed c.args.signing.sig_bits) c.args.keys.now.lines c.args.reach.now.trie.now (bits_of c.args.view.now) c.loop-limit.at c.loop-limit.limit c.node-depth.result.extent c.loop-limit.invariant.search (ap (λ (n : Node). n.extent) c.node-depth.ensures) c.if-limit-depth.true
+
+pub loop-limit-preserved-then-len-reach : goal.loop-limit-preserved-then-len-reach
+loop-limit-preserved-then-len-reach g c =
+    let over = c.if-limit-depth.false in
+    let long = c.loop-limit.invariant.limit in
+    let within = c.fattest-len.ensures.within in
+    record {
+      counted = c.loop-limit.invariant.counted;
+      inside = c.loop-limit.invariant.inside;
+      limit = omega arith;
+      search = telling_beyond (map_read c.args.map.now c.args.signing.seed c.args.signing.sig_bits) c.args.keys.now.lines c.args.reach.now.trie.now (bits_of c.args.view.now) c.loop-limit.at c.loop-limit.limit c.node-depth.result.extent c.fattest-len.result c.args.reach.now.longest
+          c.requires.built
+          c.loop-limit.invariant.search
+          (record { deep = ap (λ (n : Node). n.extent) c.node-depth.ensures; more = omega arith; inside = long; size = c.fattest-len.ensures.value })
+          c.args.reach.now.longest_extent
+          c.if-len-reach.true;
+    }
 
 pub loop-limit-smaller-in-Some-reached : goal.loop-limit-smaller-in-Some-reached
 loop-limit-smaller-in-Some-reached g c =
     let over = c.if-limit-depth.false in
-    deeper c.args.trie.now.nodes c.loop-limit.at c.loop-limit.limit c.node-depth.result.extent c.fattest-len.result (Some c.from.result) c.in-Some-reached.node (ap (λ (n : Node). n.extent) c.node-depth.ensures) (omega arith) c.fattest-len.ensures.value (sym c.in-Some-reached.ensures.value)
+    deeper c.args.reach.now.trie.now.nodes c.loop-limit.at c.loop-limit.limit c.node-depth.result.extent c.fattest-len.result (Some c.from.result) c.in-Some-reached.node (ap (λ (n : Node). n.extent) c.node-depth.ensures) (omega arith) c.fattest-len.ensures.value (sym c.in-Some-reached.ensures.value)
 
 pub loop-limit-preserved-in-Some-reached : goal.loop-limit-preserved-in-Some-reached
 loop-limit-preserved-in-Some-reached g c =
     let lines = c.args.keys.now.lines in
-    let t = c.args.trie.now in
+    let t = c.args.reach.now.trie.now in
     let x = bits_of c.args.view.now in
     let over = c.if-limit-depth.false in
     let long = c.loop-limit.invariant.limit in
@@ -53,7 +71,7 @@ loop-limit-preserved-in-Some-reached g c =
 pub loop-limit-preserved-in-None-reached : goal.loop-limit-preserved-in-None-reached
 loop-limit-preserved-in-None-reached g c =
     let lines = c.args.keys.now.lines in
-    let t = c.args.trie.now in
+    let t = c.args.reach.now.trie.now in
     let x = bits_of c.args.view.now in
     let over = c.if-limit-depth.false in
     let long = c.loop-limit.invariant.limit in
@@ -78,7 +96,7 @@ pub returns-then-is_some-clause-value : goal.returns-then-is_some-clause-value
 returns-then-is_some-clause-value g c =
     let m = map_read c.args.map.now c.args.signing.seed c.args.signing.sig_bits in
     let lines = c.args.keys.now.lines in
-    let t = c.args.trie.now in
+    let t = c.args.reach.now.trie.now in
     let x = bits_of c.args.view.now in
     let over = c.if-limit-depth.false in
     let long = c.loop-limit.invariant.limit in
@@ -97,7 +115,7 @@ pub loop-limit-preserved : goal.loop-limit-preserved
 loop-limit-preserved g c =
     let m = map_read c.args.map.now c.args.signing.seed c.args.signing.sig_bits in
     let lines = c.args.keys.now.lines in
-    let t = c.args.trie.now in
+    let t = c.args.reach.now.trie.now in
     let x = bits_of c.args.view.now in
     let over = c.if-limit-depth.false in
     let long = c.loop-limit.invariant.limit in
