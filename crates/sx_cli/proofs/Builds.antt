@@ -17,7 +17,8 @@ use Rattle.sx_spec.specs.Run.{Promise, FilesAfterFault}
 use Rattle.sx_spec.specs.Values.{ValuesFault}
 use Rattle.sx_spec.specs.World.{World, Outcome, CountsStay, CountRose, OnlyRose, KeepsFiles, SetsFile, partly, to_end, the_shelf, the_input, the_out}
 use Rattle.sx_spec_program.specs.Program.{sux_program}
-use Rattle.sx_cli.specs.Building.{IsReady, AllFail, RefusesLine}
+use Rattle.sx_trial.specs.Seeds.{IsReady, AllFail}
+use Rattle.sx_cli.specs.Building.{RefusesLine}
 use Rattle.sx_cli.specs.Progress.{ReadsAll, FailsBehind}
 use Rattle.sx_cli.specs.Telling.{Tells, Fails}
 use Rattle.sx_cli.specs.Writing.{SetsPart}

@@ -5,7 +5,7 @@ use Rattle.std.specs.Io.KnownBytes.{Consumes, IsAtEnd}
 use Rattle.std.proofs.lemmas.Bool.{cases_lt}
 use Rattle.std.proofs.lemmas.List.{take-append-le}
 use Rattle.sx_spec.specs.Layout.{bytes_words}
-use Rattle.sx_dump.proofs.WordPieces.{words_append}
+use Rattle.sx_bytes.proofs.WordPieces.{words_append}
 use Rattle.sx_cli.specs.FileWords.{ReadsFile, ReadsWords, TakesWords}
 use Rattle.std.specs.Int.{div_ceil}
 use Rattle.sx_cli.proofs.Opens.{take_all, words_count}

@@ -9,7 +9,6 @@ pub mod Advances
 pub mod Readings
 pub mod Shelves
 pub mod GivenBuilds
-pub mod Tries
 pub mod ValueFaults
 pub mod ValueReadings
 pub mod Queries
@@ -17,5 +16,6 @@ pub mod Asked
 pub mod Serves
 pub mod Opens
 pub mod Shows
+pub mod Trials
 pub mod Refusals
 pub mod FileReadings

@@ -7,7 +7,7 @@ use Rattle.sx_spec.specs.declared.Status.{Status}
 use Rattle.sx_spec.specs.declared.Status.TheVariants.{Memory}
 use Rattle.sx_spec.specs.Command.{Text}
 use Rattle.sx_spec.specs.Messages.{Place, memory_text}
-use Rattle.sx_spec.specs.World.{World, world}
+use Rattle.sx_spec.specs.World.{World, Files, world}
 use Rattle.sx_cli.specs.declared.serve.Served.{Served}
 use Rattle.sx_cli.specs.Serving.{Ends, Finishes}
 use Rattle.sx_cli.specs.Showing.{Shows}
@@ -65,3 +65,8 @@ module _ {O E : Type 0} (o : SinkGhosts O) (e : SinkGhosts E) where
   ShowsOn text out_old out_new err_old err_new result =
       Shows text (o.written out_old) (o.written out_new) (o.faults out_old) (o.faults out_new)
       (e.written err_old) (e.written err_new) (e.faults err_old) (e.faults err_new) result
+
+  -- out and err, with a shelf and an input that tell so much and have failed so often
+  abbrev pub world_of_sinks : Option Files → Option (List ℕ) → ℕ → ℕ → O → E → World
+  world_of_sinks files input shelf_faults input_faults out err =
+      world files input (o.written out) (e.written err) shelf_faults input_faults (o.faults out) (e.faults err)

@@ -9,7 +9,7 @@ use Rattle.sx_spec.specs.Command.{Text, BuildTask}
 use Rattle.sx_spec.specs.Layout.{words_bytes}
 use Rattle.sx_spec.specs.Messages.{at_dump, at_output, memory_text}
 use Rattle.sx_spec.specs.World.{World, SetsFile}
-use Rattle.sx_cli.specs.Building.{IsReady, AllFail}
+use Rattle.sx_trial.specs.Seeds.{IsReady, AllFail}
 use Rattle.sx_cli.specs.Telling.{Tells, Fails}
 use Rattle.sx_cli.specs.Writing.{SetsPart}
 

@@ -19,7 +19,6 @@ ghost use Rattle.sx_text.specs.Reasons.{values_fault_of};
 
 use crate::dump::write_dump;
 use crate::keys::{KeysStop, read_keys};
-use crate::seeds::{Tried, try_seeds};
 use crate::telling::{Place, fail, tell, tell_memory};
 use crate::values::{ValuesStop, ranks, read_values};
 use std::alloc::Global;
@@ -31,6 +30,7 @@ use sx_edge::source::Source;
 use sx_spec::Status;
 use sx_steps::Steps;
 use sx_text::messages::{KeyReason, ValuesFault, key_message, values_message};
+use sx_trial::{Tried, try_seeds};
 use sx_words::BuildTask;
 
 /// Tells why a line is no key.

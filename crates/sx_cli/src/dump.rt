@@ -6,7 +6,7 @@ ghost use Rattle.sx_spec.specs.Layout.{words_bytes};
 ghost use Rattle.sx_spec.specs.World.{SetsFile};
 ghost use Rattle.sx_cli.specs.Writing.{SetsPart};
 
-use sx_dump::put_words;
+use sx_bytes::put_words;
 use sx_edge::shelf::Shelf;
 use sx_edge::source::Failed;
 

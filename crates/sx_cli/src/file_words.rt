@@ -7,7 +7,8 @@ ghost use Rattle.sx_cli.specs.FileWords.{file_failed, ReadsWords, TakesWords};
 
 use crate::dump_file::DumpFile;
 use std::alloc::{AllocError, Global};
-use sx_dump::{MAX_BYTES, push_words};
+use sx_bytes::push_words;
+use sx_dump::MAX_BYTES;
 use sx_edge::shelf::{Shelf, fill_buffer};
 use sx_edge::source::Failed;
 

@@ -9,10 +9,10 @@ mod keys;
 mod open;
 mod query;
 pub mod run;
-mod seeds;
 mod serve;
 mod show;
 pub mod telling;
+mod trial;
 mod values;
 
 pub use sx_spec::Status;

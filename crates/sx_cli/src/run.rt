@@ -3,11 +3,11 @@ ghost use Rattle.std.specs.Prelude.{◌≡◌, ◌-◌, ◌≤◌, ◌⊎◌};
 ghost use Rattle.sx_edge.specs.Shelf.{idle};
 ghost use Rattle.sx_spec.specs.declared.Status.TheVariants.{Memory, Usage};
 ghost use Rattle.sx_spec.specs.Causes.{StaysUnless, is_fault};
+ghost use Rattle.sx_spec.specs.Command.{command};
 ghost use Rattle.sx_spec.specs.Messages.{memory_text, usage_text};
 ghost use Rattle.sx_spec.specs.Run.{Promise};
 ghost use Rattle.sx_spec.specs.World.{world};
-ghost use Rattle.sx_spec_program.specs.Offer.{offered};
-ghost use Rattle.sx_spec_program.specs.Program.{sux_offer, sux_program};
+ghost use Rattle.sx_spec_program.specs.Program.{sux_program};
 ghost use Rattle.sx_cli.specs.Objects.{world_of, TellsOrWants};
 ghost use Rattle.sx_cli.specs.Telling.{Tells};
 
@@ -15,6 +15,7 @@ use crate::build::build;
 use crate::query::query;
 use crate::show::{Wanted, show};
 use crate::telling::{tell, tell_memory};
+use crate::trial::trial;
 use std::alloc::Global;
 use std::sync::ledger::Ledger;
 use sx_edge::shelf::Shelf;
@@ -53,7 +54,7 @@ pub fn run<F: Shelf, S: Source, O: Sink, E: Sink, L: Ledger>(
     steps: &mut Steps<L>,
 ) -> Status
     requires { F.in_use files.old ≡ idle }
-    ensures promise { Promise sux_program (offered sux_offer words.now)
+    ensures promise { Promise sux_program (command words.now)
         (world_of F.Shelf S.Source O.Sink E.Sink files.old input.old out.old err.old)
         (world_of F.Shelf S.Source O.Sink E.Sink files.new input.new out.new err.new)
         (steps.new - steps.old) result }
@@ -70,16 +71,6 @@ pub fn run<F: Shelf, S: Source, O: Sink, E: Sink, L: Ledger>(
         Task::Query(name) => query(alloc, name.as_str(), files, input, out, err, steps),
         Task::Open(name) => show(alloc, name.as_str(), Wanted::Line, files, out, err),
         Task::Dump(name) => show(alloc, name.as_str(), Wanted::Whole, files, out, err),
+        Task::Trial { kind, keys } => trial(alloc, kind, keys, out, err, steps),
     }
 }
-
-#[cfg(test)]
-mod failing_tests;
-#[cfg(test)]
-mod ranks_tests;
-#[cfg(test)]
-mod tests;
-#[cfg(test)]
-mod waiting_tests;
-#[cfg(test)]
-mod zfast_tests;

@@ -206,3 +206,38 @@ pub fn opened_text(alloc: Global, kind: Kind, keys: u64, words: u64) -> Result<V
     text.extend_from_slice(b"\n")?;
     Ok(text)
 }
+
+/// Puts a number of up to 128 bits at the end, in decimal.
+fn push_wide(text: &mut Vec<u8>, number: u128) -> Result<(), AllocError>
+    ensures { OnOk result (text.new.items ≡ text.old.items ++ decimal number) }
+{
+    let mut buffer = Buffer::new();
+    text.extend_from_slice(buffer.format(number).as_bytes())
+}
+
+/// The line on a trial of so many keys: how many of them were answered, the sum of these replies, and
+/// the sum of the replies to strangers.
+pub fn trial_text(
+    alloc: Global,
+    kind: Kind,
+    keys: u64,
+    answers: u64,
+    sum: u128,
+    strangers: u128,
+) -> Result<Vec<u8>, AllocError>
+    ensures { IfOk result (λ text. text.items
+        ≡ codes "trial " ++ kind_word kind ++ codes " keys " ++ decimal keys ++ codes " answers " ++ decimal answers ++ codes " sum " ++ decimal sum ++ codes " strangers " ++ decimal strangers ++ 10 ∷ []) }
+{
+    let mut text = Vec::from_slice(alloc, b"trial ")?;
+    text.extend_from_slice(kind_word(kind).as_bytes())?;
+    text.extend_from_slice(b" keys ")?;
+    push_number(&mut text, keys)?;
+    text.extend_from_slice(b" answers ")?;
+    push_number(&mut text, answers)?;
+    text.extend_from_slice(b" sum ")?;
+    push_wide(&mut text, sum)?;
+    text.extend_from_slice(b" strangers ")?;
+    push_wide(&mut text, strangers)?;
+    text.extend_from_slice(b"\n")?;
+    Ok(text)
+}

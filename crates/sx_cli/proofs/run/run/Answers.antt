@@ -6,7 +6,7 @@ use Rattle.sx_spec.specs.Run.{Promise}
 use Rattle.sx_spec.specs.World.{World}
 use Rattle.sx_spec_program.specs.Program.{sux_program}
 use Rattle.sx_words.specs.Tasks.{task_of}
-use Rattle.sx_words.proofs.Offered.{build_fits}
+use Rattle.sx_words.proofs.Offered.{build_fits, trial_fits}
 use Rattle.sx_cli.proofs.Counts.{untouched}
 use Rattle.sx_cli.proofs.Endings.{same_files}
 use Rattle.sx_cli.proofs.Refusals.{words_refused, words_memory}
@@ -45,3 +45,10 @@ returns-in-Open-clause-promise g c =
 pub returns-in-Dump-clause-promise : goal.returns-in-Dump-clause-promise
 returns-in-Dump-clause-promise g c =
     as_task _ _ (c.args.steps.now - c.args.steps.now) c.show-in-Dump.result _ _ (ap (λ n. show_dump n) c.as_str-in-Dump.ensures ∙ ap task_of (sym c.in-Dump.is) ∙ c.in-Ok.ensures) (c.show-in-Dump.ensures.promise _ _ (c.args.steps.now - c.args.steps.now))
+
+pub trial-requires : goal.trial-requires
+trial-requires g c = trial_fits c.args.words.now c.in-Trial.kind c.in-Trial.keys (sym c.in-Ok.ensures ∙ ap task_of c.in-Trial.is)
+
+pub returns-in-Trial-clause-promise : goal.returns-in-Trial-clause-promise
+returns-in-Trial-clause-promise g c =
+    as_task _ _ (c.trial.new.steps - c.args.steps.now) c.trial.result _ _ (ap task_of (sym c.in-Trial.is) ∙ c.in-Ok.ensures) (c.trial.ensures.promise _ _ _ _ (c.trial.new.steps - c.args.steps.now))

@@ -1,0 +1,4 @@
+pub mod Answered
+pub mod BuiltOpens
+pub mod MadeLines
+pub mod Tries
