@@ -182,8 +182,8 @@ fn keys_in_many_blocks(rt: HostRuntime) -> Result<(), Fail> {
     compare(
         &rt,
         Kind::Zfast,
-        2000,
-        "trial zfast keys 2000 answers 2000 sum 1999000",
+        20_000,
+        "trial zfast keys 20000 answers 20000 sum 199990000",
     )?;
     compare(
         &rt,
