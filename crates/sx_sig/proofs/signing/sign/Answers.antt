@@ -1,18 +1,18 @@
-use Rattle.std.proofs.Common.{◌*◌, ◌++◌, length, take, ap, subst, sym, ◌∙◌, arith}
+use Rattle.std.proofs.Common.{◌*◌, ◌++◌, length, take, ap, subst, ◌∙◌, arith}
 use Rattle.sha2.specs.Hashers.{Holds256}
 use Rattle.sx_spec_strings.specs.Bits.{packed_bytes, bytes_bits}
 use Rattle.sx_spec.specs.Signature.{signature, signature_from, kept_bits}
 use Rattle.sha2.specs.Sha256.{sha256}
 use Rattle.sx_bits.specs.Views.{bits_of}
 use Rattle.sx_sig.specs.Heading.{heading}
-use Rattle.sx_sig.proofs.Messages.{no_piece, piece_more, all_pieces, message_is}
+use Rattle.sx_sig.proofs.Messages.{piece_more, all_pieces, message_is}
 use Rattle.sx_sig.proofs.signing.sign.Goals as goal
 
 pub pieces-init : goal.pieces-init
 pieces-init c =
     let bits = bits_of c.args.view.now in
     let front = heading c.args.seed (length bits) c.args.tag in
-    subst (Holds256 c.begin-hasher.result) (ap (λ n. heading c.args.seed n c.args.tag) c.len-length.ensures.value ∙ sym (no_piece front bits)) c.begin-hasher.ensures
+    c.begin-hasher.ensures
 
 pub pieces-preserved : goal.pieces-preserved
 pieces-preserved c =
