@@ -5,3 +5,7 @@ pub mod Nets
 pub mod Pushing
 pub mod Unlinking
 pub mod Calls
+pub mod Linked
+pub mod LinkedReads
+pub mod LinkedPushed
+pub mod LinkedUnlinked

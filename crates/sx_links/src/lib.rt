@@ -7,7 +7,9 @@ ghost use Rattle.sx_links.specs.Seats.{IsListOf, IsSeat, IsTaken, LiesOn, after,
 
 mod places;
 
-use places::{first_without, no_owners, no_seats, place_of, set_link, zeros};
+use places::{
+    Neighbours, no_neighbours, place_at, place_of, seat_at, set_after, set_before, zeros,
+};
 use std::alloc::{AllocError, Global};
 use std::marker::Model;
 
@@ -18,21 +20,18 @@ pub struct Seat {
     pub hook: u32,
 }
 
-/// Lists of seats.
+/// Lists of seats. The seats of a list stand on a ring through its head, so that the first and the last of them are put
+/// in and taken out as any other is.
 #[derive(Debug, Drop)]
 pub struct Links {
     items: u32,
     hooks: u32,
-    /// The first seat of each list.
-    firsts: Vec<Option<Seat>>,
     /// How many seats each list has.
     lens: Vec<u32>,
-    /// The list of each seat.
-    owners: Vec<Option<u32>>,
-    /// The seat before each seat.
-    befores: Vec<Option<Seat>>,
-    /// The seat after each seat.
-    afters: Vec<Option<Seat>>,
+    /// One more than the list of each seat, 0 where it lies on none.
+    owners: Vec<u32>,
+    /// The links from each seat, and behind them those from the head of each list.
+    neighbours: Vec<Neighbours>,
 }
 
 impl Model for Links {
@@ -40,18 +39,16 @@ impl Model for Links {
 
     ghost Value = { Lists };
 
-    ghost use Rattle.sx_links.specs.Chains.{IsNet, walks};
+    ghost use Rattle.sx_links.specs.Linked.{IsFlatNet, flat_of, lists_of};
 
-    ghost view = { λ l. record { items = l.items; hooks = l.hooks; lists = walks l.hooks l.afters.items l.firsts.items l.lens.items } };
-
-    ghost invariant = { λ l. IsNet l.items (record {
+    ghost view = { λ l. record {
+      items = l.items;
       hooks = l.hooks;
-      firsts = l.firsts.items;
-      lens = l.lens.items;
-      owners = l.owners.items;
-      befores = l.befores.items;
-      afters = l.afters.items;
-    }) };
+      lists = lists_of (flat_of l.hooks l.lens.items l.owners.items l.neighbours.items);
+    } };
+
+    ghost invariant = { λ l.
+        IsFlatNet l.items (flat_of l.hooks l.lens.items l.owners.items l.neighbours.items) };
 }
 
 impl Links {
@@ -60,6 +57,7 @@ impl Links {
     /// # Errors
     ///
     /// Want of memory.
+    #[inline(always)]
     pub fn new(alloc: Global, items: u32, lists: u32, hooks: u32) -> Result<Links, AllocError>
         requires { items * hooks < 2 ^ 32 }
         ensures { IfOk result
@@ -69,69 +67,73 @@ impl Links {
         Ok(Links {
             items,
             hooks,
-            firsts: no_seats(alloc, lists as usize)?,
             lens: zeros(alloc, lists as usize)?,
-            owners: no_owners(alloc, seats)?,
-            befores: no_seats(alloc, seats)?,
-            afters: no_seats(alloc, seats)?,
+            owners: zeros(alloc, seats)?,
+            neighbours: no_neighbours(alloc, seats + lists as usize)?,
         })
     }
 
     /// Puts the seat first on a list. The seat lies on none.
+    #[inline]
     pub fn push(&mut self, list: u32, item: u32, hook: u32)
         requires list { list < length self.old.lists }
         requires seat { IsSeat self.old (record { item = item; hook = hook }) }
         requires free { ¬ IsTaken self.old (record { item = item; hook = hook }) }
         ensures { self.new ≡ put_first list (record { item = item; hook = hook }) self.old }
     {
-        let seat = Seat { item, hook };
-        let place = place_of(self.hooks, seat);
-        let second = self.firsts[list as usize];
-        set_link(&mut self.befores, self.hooks, second, Some(seat));
-        self.owners[place] = Some(list);
-        self.befores[place] = None;
-        self.afters[place] = second;
-        self.firsts[list as usize] = Some(seat);
+        let place = place_of(self.hooks, Seat { item, hook });
+        let head = self.owners.len() + list as usize;
+        let link = place as u32 + 1;
+        let second = self.neighbours[head].after;
+        set_before(&mut self.neighbours, place_at(second, head), link);
+        set_before(&mut self.neighbours, place, 0);
+        set_after(&mut self.neighbours, place, second);
+        set_after(&mut self.neighbours, head, link);
+        self.owners[place] = list + 1;
         self.lens[list as usize] += 1;
     }
 
     /// Takes the seat out of its list.
+    #[inline]
     pub fn unlink(&mut self, item: u32, hook: u32)
         requires seat { IsSeat self.old (record { item = item; hook = hook }) }
         requires taken { IsTaken self.old (record { item = item; hook = hook }) }
         ensures { self.new ≡ taken_out (record { item = item; hook = hook }) self.old }
     {
         let place = place_of(self.hooks, Seat { item, hook });
-        let before = self.befores[place];
-        let after = self.afters[place];
-        if let Some(list) = self.owners[place] {
-            self.lens[list as usize] -= 1;
-            self.firsts[list as usize] = first_without(before, after, self.firsts[list as usize]);
-            set_link(&mut self.befores, self.hooks, after, before);
-            set_link(&mut self.afters, self.hooks, before, after);
-            self.owners[place] = None;
-        }
+        let list = self.owners[place] as usize - 1;
+        let head = self.owners.len() + list;
+        let Neighbours { before, after } = self.neighbours[place];
+        set_before(&mut self.neighbours, place_at(after, head), before);
+        set_after(&mut self.neighbours, place_at(before, head), after);
+        self.owners[place] = 0;
+        self.lens[list] -= 1;
     }
 
     /// The first seat of a list, None exactly where the list is empty.
+    #[inline]
     pub fn first(&self, list: u32) -> Option<Seat>
         requires { list < length self.now.lists }
         ensures { result ≡ slice_get (seats_of self.now list) 0 }
     {
-        self.firsts[list as usize]
+        let head = self.owners.len() + list as usize;
+        seat_at(self.hooks, self.neighbours[head].after)
     }
 
     /// The seat after this one in its list, None exactly where it is the last.
+    #[inline]
     pub fn next(&self, item: u32, hook: u32) -> Option<Seat>
         requires seat { IsSeat self.now (record { item = item; hook = hook }) }
         requires taken { IsTaken self.now (record { item = item; hook = hook }) }
         ensures { (list : ℕ) → LiesOn self.now list (record { item = item; hook = hook })
             → result ≡ after (record { item = item; hook = hook }) (seats_of self.now list) }
     {
-        self.afters[place_of(self.hooks, Seat { item, hook })]
+        let place = place_of(self.hooks, Seat { item, hook });
+        seat_at(self.hooks, self.neighbours[place].after)
     }
 
     /// How many seats a list has.
+    #[inline]
     pub fn len(&self, list: u32) -> u32
         requires { list < length self.now.lists }
         ensures { result ≡ length (seats_of self.now list) }
@@ -140,31 +142,14 @@ impl Links {
     }
 
     /// The list on which the seat lies, None exactly where it lies on none.
+    #[inline]
     pub fn list_of(&self, item: u32, hook: u32) -> Option<u32>
         requires { IsSeat self.now (record { item = item; hook = hook }) }
         ensures { IsListOf self.now (record { item = item; hook = hook }) result }
     {
-        self.owners[place_of(self.hooks, Seat { item, hook })]
+        self.owners[place_of(self.hooks, Seat { item, hook })].checked_sub(1)
     }
 }
 
 #[cfg(test)]
-mod tests {
-    use super::*;
-    use std::test::Fail;
-
-    #[test]
-    fn two_items_on_one_list(rt: HostRuntime) -> Result<(), Fail> {
-        let mut links = Links::new(rt.alloc(), 2, 1, 1)?;
-        links.push(0, 0, 0);
-        links.push(0, 1, 0);
-        assert_eq!(rt; links.len(0), 2);
-        assert_eq!(rt; links.first(0), Some(Seat { item: 1, hook: 0 }));
-        assert_eq!(rt; links.next(1, 0), Some(Seat { item: 0, hook: 0 }));
-        links.unlink(1, 0);
-        assert_eq!(rt; links.list_of(1, 0), None);
-        assert_eq!(rt; links.first(0), Some(Seat { item: 0, hook: 0 }));
-        assert_eq!(rt; links.next(0, 0), None);
-        Ok(())
-    }
-}
+mod tests;

@@ -1,63 +1,87 @@
-//! Places of seats, and links from one to another.
+//! Links as numbers: one more than the place of a seat, and 0 for the head of a list.
 
-ghost use Rattle.std.specs.Prelude.{◌≡◌, ◌<◌, ℕ, IfOk, None, Some, length, replicate};
-ghost use Rattle.sx_links.specs.Chains.{first_without, linked, place_of};
-ghost use Rattle.sx_links.specs.declared.Seat.{Seat};
+ghost use Rattle.std.specs.Prelude.{◌≡◌, ◌<◌, ℕ, IfOk, length, replicate, slice_set};
+ghost use Rattle.sx_links.specs.Chains.{place_of};
+ghost use Rattle.sx_links.specs.Linked.{afters_of, befores_of, lone, place_at, seat_at};
 
 use crate::Seat;
 use std::alloc::{AllocError, Global};
 
+/// The links from a seat, or from the head of a list, to both sides.
+#[derive(Clone, Copy, Debug)]
+pub(crate) struct Neighbours {
+    pub(crate) before: u32,
+    pub(crate) after: u32,
+}
+
 /// The place of a seat.
+#[inline]
 pub(crate) fn place_of(hooks: u32, seat: Seat) -> usize
     ensures { result ≡ place_of hooks seat }
 {
     seat.item as usize * hooks as usize + seat.hook as usize
 }
 
-/// Sets the link of the seat, if there is one.
-pub(crate) fn set_link(
-    links: &mut Vec<Option<Seat>>,
-    hooks: u32,
-    seat: Option<Seat>,
-    to: Option<Seat>,
-)
-    requires { (s : Seat) → seat ≡ Some s → place_of hooks s < length links.old.items }
-    ensures { links.new.items ≡ linked hooks seat to links.old.items }
+/// The seat to which a link leads, None for the head of a list.
+#[inline]
+pub(crate) fn seat_at(hooks: u32, link: u32) -> Option<Seat>
+    requires { 0 < link → 0 < hooks }
+    ensures { result ≡ seat_at hooks link }
 {
-    if let Some(seat) = seat {
-        links[place_of(hooks, seat)] = to;
+    if link == 0 {
+        return None;
     }
+    let place = link - 1;
+    Some(Seat {
+        item: place / hooks,
+        hook: place % hooks,
+    })
 }
 
-/// The first seat of a list after the one between these two was taken out.
-pub(crate) fn first_without(
-    before: Option<Seat>,
-    after: Option<Seat>,
-    first: Option<Seat>,
-) -> Option<Seat>
-    ensures { result ≡ first_without before after first }
+/// Where the neighbours stand of what a link of a list leads to.
+#[inline]
+pub(crate) fn place_at(link: u32, head: usize) -> usize
+    ensures { result ≡ place_at link head }
 {
-    match before {
-        Some(_) => first,
-        None => after,
-    }
+    if link == 0 { head } else { link as usize - 1 }
 }
 
-/// So many links to no seat.
-pub(crate) fn no_seats(alloc: Global, count: usize) -> Result<Vec<Option<Seat>>, AllocError>
-    ensures { IfOk result (λ v. v.items ≡ replicate count None) }
+/// Sets the link to what stands before.
+#[inline]
+pub(crate) fn set_before(neighbours: &mut Vec<Neighbours>, place: usize, link: u32)
+    requires { place < length neighbours.old.items }
+    ensures befores { befores_of neighbours.new.items
+        ≡ slice_set (befores_of neighbours.old.items) place link }
+    ensures afters { afters_of neighbours.new.items ≡ afters_of neighbours.old.items }
+    ensures len { length neighbours.new.items ≡ length neighbours.old.items }
 {
-    Ok(vec![in alloc; None; count]?)
+    neighbours[place].before = link;
 }
 
-/// So many seats that lie on no list.
-pub(crate) fn no_owners(alloc: Global, count: usize) -> Result<Vec<Option<u32>>, AllocError>
-    ensures { IfOk result (λ v. v.items ≡ replicate count None) }
+/// Sets the link to what stands after.
+#[inline]
+pub(crate) fn set_after(neighbours: &mut Vec<Neighbours>, place: usize, link: u32)
+    requires { place < length neighbours.old.items }
+    ensures befores { befores_of neighbours.new.items ≡ befores_of neighbours.old.items }
+    ensures afters { afters_of neighbours.new.items
+        ≡ slice_set (afters_of neighbours.old.items) place link }
+    ensures len { length neighbours.new.items ≡ length neighbours.old.items }
 {
-    Ok(vec![in alloc; None; count]?)
+    neighbours[place].after = link;
 }
 
-/// So many lengths of 0.
+/// So many links from heads of empty lists, and from seats that lie on no list.
+pub(crate) fn no_neighbours(alloc: Global, count: usize) -> Result<Vec<Neighbours>, AllocError>
+    ensures { IfOk result (λ v. v.items ≡ replicate count lone) }
+{
+    let lone = Neighbours {
+        before: 0,
+        after: 0,
+    };
+    Ok(vec![in alloc; lone; count]?)
+}
+
+/// So many zeros.
 pub(crate) fn zeros(alloc: Global, count: usize) -> Result<Vec<u32>, AllocError>
     ensures { IfOk result (λ v. v.items ≡ replicate count 0) }
 {

@@ -1,192 +1,145 @@
-use Rattle.std.proofs.Common.{◌≡◌, ◌<◌, ◌++◌, get_or, set, sym, ap, subst, ◌∙◌, arith, Some, None}
+use Rattle.std.proofs.Common.{◌≡◌, ◌<◌, ◌+◌, ◌-◌, length, get_or, set, refl, sym, ap, subst, ◌∙◌, arith}
 use Rattle.std.proofs.lemmas.List.{get_or_read}
 use Rattle.sx_links.specs.declared.Seat.{Seat}
 use Rattle.sx_links.specs.Seats.{Lists, IsTaken}
-use Rattle.sx_links.specs.Chains.{Net, place_of, walks, first_without}
-use Rattle.sx_links.proofs.Chains.{place_below}
-use Rattle.sx_links.proofs.Nets.{lists_are, net_of_lists, walks_are_lists, stands}
-use Rattle.sx_links.proofs.Calls.{taken_owner}
-use Rattle.sx_links.proofs.Unlinking.{some_len, unlinked_links, next_below, before_below, lists_without}
+use Rattle.sx_links.specs.Linked.{FlatNet, flat_of, befores_of, afters_of, place_at}
+use Rattle.sx_links.proofs.Linked.{before_read, after_read, links_are, place_at_below}
+use Rattle.sx_links.proofs.LinkedReads.{seat_inside, flat_owned}
+use Rattle.sx_links.proofs.LinkedUnlinked.{owner_inside, some_seat, before_small, later_small, unlink_made}
 use Rattle.sx_links.proofs.Links.unlink.Goals as goal
 
-pub index_mut-requires : goal.index_mut-requires
-index_mut-requires c =
+pub overflow_sub-list : goal.overflow_sub-list
+overflow_sub-list c =
     let i = c.self.inside in
-    let net : Net = record { hooks = i.hooks; firsts = i.firsts.items; lens = i.lens.items; owners = i.owners.items; befores = i.befores.items; afters = i.afters.items } in
+    let flat : FlatNet = flat_of i.hooks i.lens.items i.owners.items i.neighbours.items in
+    let is = c.self.invariant in
     let s : Seat = record { item = c.args.item; hook = c.args.hook } in
     let seat = subst (λ (v : Lists). (c.args.item < v.items) × (c.args.hook < v.hooks)) (sym c.self.view_is) c.requires.seat in
-    let below = place_below i.items i.hooks s seat.0 seat.1 in
+    let taken = subst (λ (v : Lists). IsTaken v s) (sym c.self.view_is) c.requires.taken in
+    let below = seat_inside i.items flat is s seat.0 seat.1 in
     let place = c.place_of-place.ensures in
-    let owners = c.self.invariant.owners in
-    let owner = get_or_read i.owners.items c.place_of-place.result c.index.result.now (omega arith) c.index.ensures None in
-    let lists = walks net.hooks net.afters net.firsts net.lens in
-    let are = lists_are i.items net c.self.invariant in
-    let mine : get_or net.owners (place_of net.hooks s) None ≡ Some c.in-Some.list = ap (λ p. get_or net.owners p None) (sym place) ∙ sym owner ∙ c.in-Some.is in
-    let at = stands i.items net lists are c.in-Some.list s seat.1 mine in
-    let inside = at.inside in
-    let lens = are.lens in
+    let owner = get_or_read i.owners.items c.place_of-place.result c.index.result.now (omega arith) c.index.ensures 0 ∙ ap (λ k. get_or i.owners.items k 0) place in
+    let some = flat_owned i.items flat is s seat.0 seat.1 taken in
+    omega arith
+
+pub set_before-requires : goal.set_before-requires
+set_before-requires c =
+    let i = c.self.inside in
+    let flat : FlatNet = flat_of i.hooks i.lens.items i.owners.items i.neighbours.items in
+    let is = c.self.invariant in
+    let s : Seat = record { item = c.args.item; hook = c.args.hook } in
+    let seat = subst (λ (v : Lists). (c.args.item < v.items) × (c.args.hook < v.hooks)) (sym c.self.view_is) c.requires.seat in
+    let taken = subst (λ (v : Lists). IsTaken v s) (sym c.self.view_is) c.requires.taken in
+    let below = seat_inside i.items flat is s seat.0 seat.1 in
+    let place = c.place_of-place.ensures in
+    let owner = get_or_read i.owners.items c.place_of-place.result c.index.result.now (omega arith) c.index.ensures 0 ∙ ap (λ k. get_or i.owners.items k 0) place in
+    let inside = owner_inside i.items flat is s seat.0 seat.1 taken in
+    let size = links_are i.items flat is i.neighbours.items refl in
+    let head : c.len.result + (c.index.result.now - 1) ≡ length i.owners.items + (c.index.result.now - 1) = omega (arith, c.len.ensures, i.owners.ok.0) in
+    let from = before_read i.neighbours.items c.place_of-place.result c.index-2.result.now (omega arith) c.index-2.ensures ∙ ap (λ k. get_or flat.befores k 0) place in
+    let to = after_read i.neighbours.items c.place_of-place.result c.index-2.result.now (omega arith) c.index-2.ensures ∙ ap (λ k. get_or flat.afters k 0) place in
+    let below_at = place_at_below c.index-2.result.now.after (length i.owners.items) (c.index.result.now - 1) (length i.neighbours.items)
+    (λ k e. later_small i.items flat is s seat.0 seat.1 taken k (sym to ∙ e)) (omega arith) in
+    let inside_links = subst (λ k. k < length i.neighbours.items) (sym (c.place_at.ensures ∙ ap (place_at c.index-2.result.now.after) head)) below_at in
+    inside_links
+
+pub set_after-requires : goal.set_after-requires
+set_after-requires c =
+    let i = c.self.inside in
+    let flat : FlatNet = flat_of i.hooks i.lens.items i.owners.items i.neighbours.items in
+    let is = c.self.invariant in
+    let s : Seat = record { item = c.args.item; hook = c.args.hook } in
+    let seat = subst (λ (v : Lists). (c.args.item < v.items) × (c.args.hook < v.hooks)) (sym c.self.view_is) c.requires.seat in
+    let taken = subst (λ (v : Lists). IsTaken v s) (sym c.self.view_is) c.requires.taken in
+    let below = seat_inside i.items flat is s seat.0 seat.1 in
+    let place = c.place_of-place.ensures in
+    let owner = get_or_read i.owners.items c.place_of-place.result c.index.result.now (omega arith) c.index.ensures 0 ∙ ap (λ k. get_or i.owners.items k 0) place in
+    let inside = owner_inside i.items flat is s seat.0 seat.1 taken in
+    let size = links_are i.items flat is i.neighbours.items refl in
+    let head : c.len.result + (c.index.result.now - 1) ≡ length i.owners.items + (c.index.result.now - 1) = omega (arith, c.len.ensures, i.owners.ok.0) in
+    let from = before_read i.neighbours.items c.place_of-place.result c.index-2.result.now (omega arith) c.index-2.ensures ∙ ap (λ k. get_or flat.befores k 0) place in
+    let to = after_read i.neighbours.items c.place_of-place.result c.index-2.result.now (omega arith) c.index-2.ensures ∙ ap (λ k. get_or flat.afters k 0) place in
+    let below_at = place_at_below c.index-2.result.now.before (length i.owners.items) (c.index.result.now - 1) (length i.neighbours.items)
+    (λ k e. before_small i.items flat is s seat.0 seat.1 taken k (sym from ∙ e)) (omega arith) in
+    let inside_links = subst (λ k. k < length i.neighbours.items) (sym (c.place_at-2.ensures ∙ ap (place_at c.index-2.result.now.before) head)) below_at in
+    let kept = c.set_before.ensures.len in
+    omega arith
+
+pub index_mut-requires-2 : goal.index_mut-requires-2
+index_mut-requires-2 c =
+    let i = c.self.inside in
+    let flat : FlatNet = flat_of i.hooks i.lens.items i.owners.items i.neighbours.items in
+    let is = c.self.invariant in
+    let s : Seat = record { item = c.args.item; hook = c.args.hook } in
+    let seat = subst (λ (v : Lists). (c.args.item < v.items) × (c.args.hook < v.hooks)) (sym c.self.view_is) c.requires.seat in
+    let taken = subst (λ (v : Lists). IsTaken v s) (sym c.self.view_is) c.requires.taken in
+    let below = seat_inside i.items flat is s seat.0 seat.1 in
+    let place = c.place_of-place.ensures in
+    let owner = get_or_read i.owners.items c.place_of-place.result c.index.result.now (omega arith) c.index.ensures 0 ∙ ap (λ k. get_or i.owners.items k 0) place in
+    let inside = owner_inside i.items flat is s seat.0 seat.1 taken in
     omega (arith, i.lens.ok.0)
 
 pub overflow_sub-index_mut : goal.overflow_sub-index_mut
 overflow_sub-index_mut c =
     let i = c.self.inside in
-    let net : Net = record { hooks = i.hooks; firsts = i.firsts.items; lens = i.lens.items; owners = i.owners.items; befores = i.befores.items; afters = i.afters.items } in
+    let flat : FlatNet = flat_of i.hooks i.lens.items i.owners.items i.neighbours.items in
+    let is = c.self.invariant in
     let s : Seat = record { item = c.args.item; hook = c.args.hook } in
     let seat = subst (λ (v : Lists). (c.args.item < v.items) × (c.args.hook < v.hooks)) (sym c.self.view_is) c.requires.seat in
-    let below = place_below i.items i.hooks s seat.0 seat.1 in
+    let taken = subst (λ (v : Lists). IsTaken v s) (sym c.self.view_is) c.requires.taken in
+    let below = seat_inside i.items flat is s seat.0 seat.1 in
     let place = c.place_of-place.ensures in
-    let owners = c.self.invariant.owners in
-    let owner = get_or_read i.owners.items c.place_of-place.result c.index.result.now (omega arith) c.index.ensures None in
-    let lists = walks net.hooks net.afters net.firsts net.lens in
-    let are = lists_are i.items net c.self.invariant in
-    let mine : get_or net.owners (place_of net.hooks s) None ≡ Some c.in-Some.list = ap (λ p. get_or net.owners p None) (sym place) ∙ sym owner ∙ c.in-Some.is in
-    let at = stands i.items net lists are c.in-Some.list s seat.1 mine in
-    let inside = at.inside in
-    let lens = are.lens in
-    let len = get_or_read i.lens.items c.in-Some.list c.index_mut.result.now (omega arith) c.index_mut.ensures.value 0 in
-    let some = some_len i.items net lists are c.in-Some.list s seat.0 seat.1 mine at in
+    let owner = get_or_read i.owners.items c.place_of-place.result c.index.result.now (omega arith) c.index.ensures 0 ∙ ap (λ k. get_or i.owners.items k 0) place in
+    let inside = owner_inside i.items flat is s seat.0 seat.1 taken in
+    let len = get_or_read i.lens.items (c.index.result.now - 1) c.index_mut-2.result.now (omega arith) c.index_mut-2.ensures.value 0
+    ∙ ap (λ k. get_or i.lens.items (k - 1) 0) owner in
+    let some = some_seat i.items flat is s seat.0 seat.1 taken in
     omega arith
-
-pub index-requires-in-Some : goal.index-requires-in-Some
-index-requires-in-Some c =
-    let i = c.self.inside in
-    let net : Net = record { hooks = i.hooks; firsts = i.firsts.items; lens = i.lens.items; owners = i.owners.items; befores = i.befores.items; afters = i.afters.items } in
-    let s : Seat = record { item = c.args.item; hook = c.args.hook } in
-    let seat = subst (λ (v : Lists). (c.args.item < v.items) × (c.args.hook < v.hooks)) (sym c.self.view_is) c.requires.seat in
-    let below = place_below i.items i.hooks s seat.0 seat.1 in
-    let place = c.place_of-place.ensures in
-    let owners = c.self.invariant.owners in
-    let owner = get_or_read i.owners.items c.place_of-place.result c.index.result.now (omega arith) c.index.ensures None in
-    let lists = walks net.hooks net.afters net.firsts net.lens in
-    let are = lists_are i.items net c.self.invariant in
-    let mine : get_or net.owners (place_of net.hooks s) None ≡ Some c.in-Some.list = ap (λ p. get_or net.owners p None) (sym place) ∙ sym owner ∙ c.in-Some.is in
-    let at = stands i.items net lists are c.in-Some.list s seat.1 mine in
-    let inside = at.inside in
-    omega (arith, i.firsts.ok.0)
-
-pub index_mut-requires-in-Some : goal.index_mut-requires-in-Some
-index_mut-requires-in-Some c =
-    let i = c.self.inside in
-    let net : Net = record { hooks = i.hooks; firsts = i.firsts.items; lens = i.lens.items; owners = i.owners.items; befores = i.befores.items; afters = i.afters.items } in
-    let s : Seat = record { item = c.args.item; hook = c.args.hook } in
-    let seat = subst (λ (v : Lists). (c.args.item < v.items) × (c.args.hook < v.hooks)) (sym c.self.view_is) c.requires.seat in
-    let below = place_below i.items i.hooks s seat.0 seat.1 in
-    let place = c.place_of-place.ensures in
-    let owners = c.self.invariant.owners in
-    let owner = get_or_read i.owners.items c.place_of-place.result c.index.result.now (omega arith) c.index.ensures None in
-    let lists = walks net.hooks net.afters net.firsts net.lens in
-    let are = lists_are i.items net c.self.invariant in
-    let mine : get_or net.owners (place_of net.hooks s) None ≡ Some c.in-Some.list = ap (λ p. get_or net.owners p None) (sym place) ∙ sym owner ∙ c.in-Some.is in
-    let at = stands i.items net lists are c.in-Some.list s seat.1 mine in
-    let inside = at.inside in
-    omega (arith, i.firsts.ok.0)
-
-pub set_link-requires : goal.set_link-requires
-set_link-requires c =
-    let i = c.self.inside in
-    let net : Net = record { hooks = i.hooks; firsts = i.firsts.items; lens = i.lens.items; owners = i.owners.items; befores = i.befores.items; afters = i.afters.items } in
-    let s : Seat = record { item = c.args.item; hook = c.args.hook } in
-    let seat = subst (λ (v : Lists). (c.args.item < v.items) × (c.args.hook < v.hooks)) (sym c.self.view_is) c.requires.seat in
-    let below = place_below i.items i.hooks s seat.0 seat.1 in
-    let place = c.place_of-place.ensures in
-    let owners = c.self.invariant.owners in
-    let owner = get_or_read i.owners.items c.place_of-place.result c.index.result.now (omega arith) c.index.ensures None in
-    let lists = walks net.hooks net.afters net.firsts net.lens in
-    let are = lists_are i.items net c.self.invariant in
-    let mine : get_or net.owners (place_of net.hooks s) None ≡ Some c.in-Some.list = ap (λ p. get_or net.owners p None) (sym place) ∙ sym owner ∙ c.in-Some.is in
-    let at = stands i.items net lists are c.in-Some.list s seat.1 mine in
-    let inside = at.inside in
-    let afters = c.self.invariant.afters in
-    let after = get_or_read i.afters.items c.place_of-place.result c.index-after.result.now (omega arith) c.index-after.ensures None ∙ ap (λ p. get_or i.afters.items p None) place in
-    let size = c.self.invariant.befores in
-    λ m is. let low = next_below i.items net lists are c.in-Some.list s seat.0 seat.1 mine at m (sym after ∙ is) in omega arith
-
-pub set_link-requires-in-Some : goal.set_link-requires-in-Some
-set_link-requires-in-Some c =
-    let i = c.self.inside in
-    let net : Net = record { hooks = i.hooks; firsts = i.firsts.items; lens = i.lens.items; owners = i.owners.items; befores = i.befores.items; afters = i.afters.items } in
-    let s : Seat = record { item = c.args.item; hook = c.args.hook } in
-    let seat = subst (λ (v : Lists). (c.args.item < v.items) × (c.args.hook < v.hooks)) (sym c.self.view_is) c.requires.seat in
-    let below = place_below i.items i.hooks s seat.0 seat.1 in
-    let place = c.place_of-place.ensures in
-    let owners = c.self.invariant.owners in
-    let owner = get_or_read i.owners.items c.place_of-place.result c.index.result.now (omega arith) c.index.ensures None in
-    let lists = walks net.hooks net.afters net.firsts net.lens in
-    let are = lists_are i.items net c.self.invariant in
-    let mine : get_or net.owners (place_of net.hooks s) None ≡ Some c.in-Some.list = ap (λ p. get_or net.owners p None) (sym place) ∙ sym owner ∙ c.in-Some.is in
-    let at = stands i.items net lists are c.in-Some.list s seat.1 mine in
-    let inside = at.inside in
-    let befores = c.self.invariant.befores in
-    let before = get_or_read i.befores.items c.place_of-place.result c.index-before.result.now (omega arith) c.index-before.ensures None ∙ ap (λ p. get_or i.befores.items p None) place in
-    let size = c.self.invariant.afters in
-    λ q is. let low = before_below i.items net lists are c.in-Some.list s seat.0 seat.1 mine at q (sym before ∙ is) in omega arith
 
 pub invariant_of-self : goal.invariant_of-self
 invariant_of-self c =
     let i = c.self.inside in
-    let net : Net = record { hooks = i.hooks; firsts = i.firsts.items; lens = i.lens.items; owners = i.owners.items; befores = i.befores.items; afters = i.afters.items } in
+    let flat : FlatNet = flat_of i.hooks i.lens.items i.owners.items i.neighbours.items in
+    let is = c.self.invariant in
     let s : Seat = record { item = c.args.item; hook = c.args.hook } in
     let seat = subst (λ (v : Lists). (c.args.item < v.items) × (c.args.hook < v.hooks)) (sym c.self.view_is) c.requires.seat in
-    let below = place_below i.items i.hooks s seat.0 seat.1 in
-    let place = c.place_of-place.ensures in
-    let owners = c.self.invariant.owners in
-    let owner = get_or_read i.owners.items c.place_of-place.result c.index.result.now (omega arith) c.index.ensures None in
-    let lists = walks net.hooks net.afters net.firsts net.lens in
-    let are = lists_are i.items net c.self.invariant in
-    let mine : get_or net.owners (place_of net.hooks s) None ≡ Some c.in-Some.list = ap (λ p. get_or net.owners p None) (sym place) ∙ sym owner ∙ c.in-Some.is in
-    let at = stands i.items net lists are c.in-Some.list s seat.1 mine in
-    let inside = at.inside in
-    let lens = are.lens in
-    let len = get_or_read i.lens.items c.in-Some.list c.index_mut.result.now (omega arith) c.index_mut.ensures.value 0 in
-    let befores = c.self.invariant.befores in
-    let before = get_or_read i.befores.items c.place_of-place.result c.index-before.result.now (omega arith) c.index-before.ensures None ∙ ap (λ p. get_or i.befores.items p None) place in
-    let afters = c.self.invariant.afters in
-    let after = get_or_read i.afters.items c.place_of-place.result c.index-after.result.now (omega arith) c.index-after.ensures None ∙ ap (λ p. get_or i.afters.items p None) place in
-    let first = get_or_read i.firsts.items c.in-Some.list c.index-in-Some.result.now inside c.index-in-Some.ensures None in
-    let new_first = c.first_without.ensures ∙ ap (λ f. first_without c.index-before.result.now c.index-after.result.now f) first in
-    let links = unlinked_links i.items net lists are c.in-Some.list s seat.0 seat.1 mine at c.place_of-place.result c.index_mut.result.now c.index-before.result.now c.index-after.result.now
-    c.first_without.result c.set_link.new.links.items c.set_link-in-Some.new.links.items place len before after new_first c.set_link.ensures c.set_link-in-Some.ensures in
-    net_of_lists i.items _ (set lists c.in-Some.list (at.xs ++ at.ys)) links
-
-pub returns-in-Some : goal.returns-in-Some
-returns-in-Some c =
-    let i = c.self.inside in
-    let net : Net = record { hooks = i.hooks; firsts = i.firsts.items; lens = i.lens.items; owners = i.owners.items; befores = i.befores.items; afters = i.afters.items } in
-    let s : Seat = record { item = c.args.item; hook = c.args.hook } in
-    let seat = subst (λ (v : Lists). (c.args.item < v.items) × (c.args.hook < v.hooks)) (sym c.self.view_is) c.requires.seat in
-    let below = place_below i.items i.hooks s seat.0 seat.1 in
-    let place = c.place_of-place.ensures in
-    let owners = c.self.invariant.owners in
-    let owner = get_or_read i.owners.items c.place_of-place.result c.index.result.now (omega arith) c.index.ensures None in
-    let lists = walks net.hooks net.afters net.firsts net.lens in
-    let are = lists_are i.items net c.self.invariant in
-    let mine : get_or net.owners (place_of net.hooks s) None ≡ Some c.in-Some.list = ap (λ p. get_or net.owners p None) (sym place) ∙ sym owner ∙ c.in-Some.is in
-    let at = stands i.items net lists are c.in-Some.list s seat.1 mine in
-    let inside = at.inside in
-    let lens = are.lens in
-    let len = get_or_read i.lens.items c.in-Some.list c.index_mut.result.now (omega arith) c.index_mut.ensures.value 0 in
-    let befores = c.self.invariant.befores in
-    let before = get_or_read i.befores.items c.place_of-place.result c.index-before.result.now (omega arith) c.index-before.ensures None ∙ ap (λ p. get_or i.befores.items p None) place in
-    let afters = c.self.invariant.afters in
-    let after = get_or_read i.afters.items c.place_of-place.result c.index-after.result.now (omega arith) c.index-after.ensures None ∙ ap (λ p. get_or i.afters.items p None) place in
-    let first = get_or_read i.firsts.items c.in-Some.list c.index-in-Some.result.now inside c.index-in-Some.ensures None in
-    let new_first = c.first_without.ensures ∙ ap (λ f. first_without c.index-before.result.now c.index-after.result.now f) first in
-    let links = unlinked_links i.items net lists are c.in-Some.list s seat.0 seat.1 mine at c.place_of-place.result c.index_mut.result.now c.index-before.result.now c.index-after.result.now
-    c.first_without.result c.set_link.new.links.items c.set_link-in-Some.new.links.items place len before after new_first c.set_link.ensures c.set_link-in-Some.ensures in
-    rw (← c.self.view_is)
-    (ap (λ ls. record { items = i.items; hooks = i.hooks; lists = ls })
-    (walks_are_lists i.items _ (set lists c.in-Some.list (at.xs ++ at.ys)) links ∙ lists_without i.items net lists are c.in-Some.list s seat.0 seat.1 mine at))
-
-pub returns-in_default : goal.returns-in_default
-returns-in_default c =
-    let i = c.self.inside in
-    let net : Net = record { hooks = i.hooks; firsts = i.firsts.items; lens = i.lens.items; owners = i.owners.items; befores = i.befores.items; afters = i.afters.items } in
-    let s : Seat = record { item = c.args.item; hook = c.args.hook } in
-    let seat = subst (λ (v : Lists). (c.args.item < v.items) × (c.args.hook < v.hooks)) (sym c.self.view_is) c.requires.seat in
-    let below = place_below i.items i.hooks s seat.0 seat.1 in
-    let place = c.place_of-place.ensures in
-    let owners = c.self.invariant.owners in
-    let owner = get_or_read i.owners.items c.place_of-place.result c.index.result.now (omega arith) c.index.ensures None in
-    let none = c.in_default.is in
     let taken = subst (λ (v : Lists). IsTaken v s) (sym c.self.view_is) c.requires.taken in
-    absurd (taken_owner i.items net c.self.invariant s taken (ap (λ p. get_or net.owners p None) (sym place) ∙ sym owner ∙ none))
+    let below = seat_inside i.items flat is s seat.0 seat.1 in
+    let place = c.place_of-place.ensures in
+    let owner = get_or_read i.owners.items c.place_of-place.result c.index.result.now (omega arith) c.index.ensures 0 ∙ ap (λ k. get_or i.owners.items k 0) place in
+    let inside = owner_inside i.items flat is s seat.0 seat.1 taken in
+    let size = links_are i.items flat is i.neighbours.items refl in
+    let head : c.len.result + (c.index.result.now - 1) ≡ length i.owners.items + (c.index.result.now - 1) = omega (arith, c.len.ensures, i.owners.ok.0) in
+    let from = before_read i.neighbours.items c.place_of-place.result c.index-2.result.now (omega arith) c.index-2.ensures ∙ ap (λ k. get_or flat.befores k 0) place in
+    let to = after_read i.neighbours.items c.place_of-place.result c.index-2.result.now (omega arith) c.index-2.ensures ∙ ap (λ k. get_or flat.afters k 0) place in
+    let len = get_or_read i.lens.items (c.index.result.now - 1) c.index_mut-2.result.now (omega arith) c.index_mut-2.ensures.value 0
+    ∙ ap (λ k. get_or i.lens.items (k - 1) 0) owner in
+    let holds = unlink_made i.items flat is s seat.0 seat.1 taken c.place_of-place.result c.index.result.now (c.len.result + (c.index.result.now - 1)) c.place_at.result c.place_at-2.result
+    c.index-2.result.now.before c.index-2.result.now.after c.index_mut-2.result.now (befores_of c.set_after.new.neighbours.items) (afters_of c.set_after.new.neighbours.items)
+    place owner head from to c.place_at.ensures c.place_at-2.ensures len (c.set_after.ensures.befores ∙ c.set_before.ensures.befores)
+    (c.set_after.ensures.afters ∙ ap (λ links. set links c.place_at-2.result c.index-2.result.now.after) c.set_before.ensures.afters) in
+    holds.sound
+
+pub returns : goal.returns
+returns c =
+    let i = c.self.inside in
+    let flat : FlatNet = flat_of i.hooks i.lens.items i.owners.items i.neighbours.items in
+    let is = c.self.invariant in
+    let s : Seat = record { item = c.args.item; hook = c.args.hook } in
+    let seat = subst (λ (v : Lists). (c.args.item < v.items) × (c.args.hook < v.hooks)) (sym c.self.view_is) c.requires.seat in
+    let taken = subst (λ (v : Lists). IsTaken v s) (sym c.self.view_is) c.requires.taken in
+    let below = seat_inside i.items flat is s seat.0 seat.1 in
+    let place = c.place_of-place.ensures in
+    let owner = get_or_read i.owners.items c.place_of-place.result c.index.result.now (omega arith) c.index.ensures 0 ∙ ap (λ k. get_or i.owners.items k 0) place in
+    let inside = owner_inside i.items flat is s seat.0 seat.1 taken in
+    let size = links_are i.items flat is i.neighbours.items refl in
+    let head : c.len.result + (c.index.result.now - 1) ≡ length i.owners.items + (c.index.result.now - 1) = omega (arith, c.len.ensures, i.owners.ok.0) in
+    let from = before_read i.neighbours.items c.place_of-place.result c.index-2.result.now (omega arith) c.index-2.ensures ∙ ap (λ k. get_or flat.befores k 0) place in
+    let to = after_read i.neighbours.items c.place_of-place.result c.index-2.result.now (omega arith) c.index-2.ensures ∙ ap (λ k. get_or flat.afters k 0) place in
+    let len = get_or_read i.lens.items (c.index.result.now - 1) c.index_mut-2.result.now (omega arith) c.index_mut-2.ensures.value 0
+    ∙ ap (λ k. get_or i.lens.items (k - 1) 0) owner in
+    let holds = unlink_made i.items flat is s seat.0 seat.1 taken c.place_of-place.result c.index.result.now (c.len.result + (c.index.result.now - 1)) c.place_at.result c.place_at-2.result
+    c.index-2.result.now.before c.index-2.result.now.after c.index_mut-2.result.now (befores_of c.set_after.new.neighbours.items) (afters_of c.set_after.new.neighbours.items)
+    place owner head from to c.place_at.ensures c.place_at-2.ensures len (c.set_after.ensures.befores ∙ c.set_before.ensures.befores)
+    (c.set_after.ensures.afters ∙ ap (λ links. set links c.place_at-2.result c.index-2.result.now.after) c.set_before.ensures.afters) in
+    rw (← c.self.view_is) (ap (λ ls. record { items = i.items; hooks = i.hooks; lists = ls }) holds.same)
