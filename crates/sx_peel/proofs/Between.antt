@@ -1,10 +1,10 @@
--- One edge of those left is taken, or kept.
-use Rattle.std.proofs.Common.{◌≡◌, ℕ, zero, suc, ◌+◌, ◌<◌, ◌≤◌, Bool, true, false, cond, List, [], ◌∷◌, ◌++◌, length, get_or, set, take, drop, refl, sym, ap, subst, ◌∙◌, arith, inl, inr, Some, None, Option}
-use Rattle.std.specs.Prelude.{◌==◌, ◌||◌, slice_get, slice_index, IsSomeAnd, All}
+-- One edge of those left is taken.
+use Rattle.std.proofs.Common.{◌≡◌, ℕ, zero, suc, ◌+◌, ◌<◌, Bool, true, false, cond, List, [], ◌∷◌, ◌++◌, length, refl, sym, ap, subst, ◌∙◌, arith, inl, inr, Some, None, Option}
+use Rattle.std.specs.Prelude.{◌==◌, ◌||◌, slice_get, IsSomeAnd}
 use Rattle.std.specs.List.{cons_option}
 use Rattle.std.proofs.lemmas.Bool.Decides.{Decides-eqb}
-use Rattle.std.proofs.lemmas.List.{append_assoc, length_push, length-append, length-set, map_push, take_more_set, drop_more, drop-set-lt}
-use Rattle.std.proofs.lemmas.List.Elements.{filter_map-append, All-push, All-same}
+use Rattle.std.proofs.lemmas.List.{length_push, length-append, map_push}
+use Rattle.std.proofs.lemmas.List.Elements.{filter_map-append}
 use Rattle.std.proofs.lemmas.List.Sums.{sum_by-append, sum_by-cons}
 use Rattle.sx_spec_strings.proofs.Lists.{all_without}
 use Rattle.sx_spec.specs.declared.Edge.{Edge}
@@ -12,7 +12,7 @@ use Rattle.sx_spec.specs.Systems.{count_of, chosen, degree, has_vertex}
 use Rattle.sx_spec.proofs.Counts.{front_cases}
 use Rattle.sx_peel.specs.declared.Taken.{Taken}
 use Rattle.sx_peel.specs.Peeling.{vertex_in, taken_edges}
-use Rattle.sx_peel.specs.Rounds.{degree_among, IsKept, AreFreeBefore, IsBetween, IsWithinRound}
+use Rattle.sx_peel.specs.UnderWay.{degree_among, AreFreeBefore, IsBetween}
 use Rattle.sx_peel.proofs.Numbers.{count_of-append, count_of_middle, rising_without}
 
 -- ---- degrees among some of the edges
@@ -110,18 +110,11 @@ free_push edges (u ∷ later) t e xs ys at slot none free = (
         let middle = degree_among_middle edges v t.edge e xs ys at in
         omega arith
 
-pub between_take : (edges : List Edge) (degrees lowered : List ℕ) (order : List Taken) (t : Taken) (e : Edge) (xs ys : List ℕ)
+pub between_take : (edges : List Edge) (order : List Taken) (t : Taken) (e : Edge) (xs ys : List ℕ)
     → slice_get edges t.edge ≡ Some e → t.slot < 3
-    → vertex_in e t.slot < length degrees → slice_index degrees (vertex_in e t.slot) ≡ 1
-    → length lowered ≡ length degrees
-    → ((v : ℕ) → v < length degrees → slice_index lowered v + cond (has_vertex v e) 1 0 ≡ slice_index degrees v)
-    → IsBetween edges degrees order (xs ++ t.edge ∷ ys) → IsBetween edges lowered (order ++ t ∷ []) (xs ++ ys)
-between_take edges degrees lowered order t e xs ys at slot inside single size lower between = record {
-  counted = λ v h.
-      let before = between.counted v (omega arith) in
-      let change = lower v (omega arith) in
-      let middle = degree_among_middle edges v t.edge e xs ys at in
-      omega arith;
+    → degree_among edges (vertex_in e t.slot) (xs ++ t.edge ∷ ys) ≡ 1
+    → IsBetween edges order (xs ++ t.edge ∷ ys) → IsBetween edges (order ++ t ∷ []) (xs ++ ys)
+between_take edges order t e xs ys at slot single between = record {
   each = λ i h.
       let before = between.each i h in
       let middle = count_of_middle i t.edge xs ys in
@@ -140,57 +133,7 @@ between_take edges degrees lowered order t e xs ys at slot inside single size lo
   rising = rising_without xs t.edge ys between.rising;
   free = free_push edges order t e xs ys at slot
       (let v = vertex_in e t.slot in
-      let before = between.counted v inside in
       let middle = degree_among_middle edges v t.edge e xs ys at in
       let on = one_where (has_vertex v e) (vertex_lies_on e t.slot) in
       omega arith) between.free;
 }
-
--- ---- a visit
-
--- where the edge is taken
-pub visit_take : (edges : List Edge) (degrees lowered : List ℕ) (order : List Taken) (left : List ℕ) (kept at : ℕ) (t : Taken) (e : Edge)
-    → at < length left → t.edge ≡ get_or left at 0
-    → slice_get edges t.edge ≡ Some e → t.slot < 3
-    → vertex_in e t.slot < length degrees → slice_index degrees (vertex_in e t.slot) ≡ 1
-    → length lowered ≡ length degrees
-    → ((v : ℕ) → v < length degrees → slice_index lowered v + cond (has_vertex v e) 1 0 ≡ slice_index degrees v)
-    → IsWithinRound edges degrees order left kept at → IsWithinRound edges lowered (order ++ t ∷ []) left kept (at + 1)
-visit_take edges degrees lowered order left kept at t e inside number here slot vertex single size lower round = record {
-  few = let h = round.few in omega arith;
-  at_most = omega arith;
-  between =
-      let split : drop at left ≡ t.edge ∷ drop (at + 1) left = rw number (drop_more left at 0 inside) in
-      between_take edges degrees lowered order t e (take kept left) (drop (at + 1) left) here slot vertex single size lower
-      (subst (λ ys. IsBetween edges degrees order (take kept left ++ ys)) split round.between);
-  none_taken = λ same. absurd (let h = round.few in omega arith);
-}
-
--- where the edge is kept
-pub visit_keep : (edges : List Edge) (degrees : List ℕ) (order : List Taken) (left : List ℕ) (kept at i : ℕ)
-    → at < length left → i ≡ get_or left at 0 → IsKept edges degrees i
-    → IsWithinRound edges degrees order left kept at → IsWithinRound edges degrees order (set left kept i) (kept + 1) (at + 1)
-visit_keep edges degrees order left kept at i inside number keeps round =
-    let few : kept ≤ at = round.few in
-    let room : kept < length left = omega arith in
-    let front : take (kept + 1) (set left kept i) ≡ take kept left ++ i ∷ [] = take_more_set left kept i room in
-    record {
-      few = omega arith;
-      at_most = let e = length-set left kept i in omega arith;
-      between =
-          let back : drop (at + 1) (set left kept i) ≡ drop (at + 1) left = drop-set-lt (at + 1) left kept i (omega arith) in
-          let split : drop at left ≡ i ∷ drop (at + 1) left = rw number (drop_more left at 0 inside) in
-          let same : take kept left ++ drop at left ≡ take (kept + 1) (set left kept i) ++ drop (at + 1) (set left kept i) =
-          ap (λ ys. take kept left ++ ys) split
-          ∙ sym (append_assoc (take kept left) (i ∷ []) (drop (at + 1) left))
-          ∙ ap (λ xs. xs ++ drop (at + 1) left) (sym front)
-          ∙ ap (λ ys. take (kept + 1) (set left kept i) ++ ys) (sym back) in
-          subst (IsBetween edges degrees order) same round.between;
-      none_taken = λ same.
-          let together : kept ≡ at = omega arith in
-          let before : All (IsKept edges degrees) (take at left) = round.none_taken together in
-          let more : take (at + 1) (set left kept i) ≡ take at left ++ i ∷ [] =
-          ap (λ n. take (n + 1) (set left kept i)) (sym together) ∙ front ∙ ap (λ n. take n left ++ i ∷ []) together in
-          All-same (IsKept edges degrees) (take (at + 1) (set left kept i)) (take at left ++ i ∷ []) more
-          (All-push (IsKept edges degrees) (take at left) i before keeps);
-    }

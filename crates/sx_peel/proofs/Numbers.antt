@@ -1,13 +1,11 @@
 -- Lists of numbers: one taken out of the middle, and the numbers below a count.
-use Rattle.std.proofs.Common.{◌≡◌, ℕ, zero, suc, ◌+◌, ◌<◌, ◌≤◌, cond, List, [], ◌∷◌, ◌++◌, length, refl, ap, subst, add-one, ◌∙◌, arith, inl, inr, Some}
-use Rattle.std.specs.Prelude.{◌==◌, slice_get, Contains}
-use Rattle.std.specs.List.{AllByRecursion, cons_option, range_with_len}
+use Rattle.std.proofs.Common.{◌≡◌, ℕ, zero, suc, ◌+◌, ◌<◌, ◌≤◌, cond, List, [], ◌∷◌, ◌++◌, refl, add-one, ◌∙◌, arith, inl, inr}
+use Rattle.std.specs.Prelude.{◌==◌, Contains}
+use Rattle.std.specs.List.{AllByRecursion, range_with_len}
 use Rattle.std.specs.List.Sorted.{IsStrictlyIncreasing}
 use Rattle.std.proofs.lemmas.Bool.{cases_lt}
-use Rattle.std.proofs.lemmas.List.{length_push, append_assoc}
 use Rattle.std.proofs.lemmas.List.Sums.{sum_by-append}
-use Rattle.sx_spec_strings.proofs.Lists.{at_length}
-use Rattle.sx_spec.specs.Systems.{count_of, chosen}
+use Rattle.sx_spec.specs.Systems.{count_of}
 use Rattle.sx_spec.proofs.Counts.{count_of-cons, front_cases, rising_tail, rising_above}
 
 pub count_of-append : (v : ℕ) (xs ys : List ℕ) → count_of v (xs ++ ys) ≡ count_of v xs + count_of v ys
@@ -52,7 +50,7 @@ rising_without (z ∷ zs) x ys rising =
 
 -- ---- the numbers below a count
 
-range_counted : (a n j : ℕ) → 0 < count_of j (range_with_len a n) → (a ≤ j) × (j < a + n)
+pub range_counted : (a n j : ℕ) → 0 < count_of j (range_with_len a n) → (a ≤ j) × (j < a + n)
 range_counted a zero j some = absurd (omega arith)
 range_counted a (suc n) j some =
     elim (front_cases j a (range_with_len (a + 1) n)) [
@@ -80,19 +78,3 @@ range_once a (suc n) j low high =
 pub range_within : (a n m : ℕ) → a + n ≤ m → AllByRecursion (λ i. i < m) (range_with_len a n)
 range_within a zero m high = tt
 range_within a (suc n) m high = (omega arith, range_within (a + 1) n m (omega arith))
-
--- all that stand behind a front are chosen by their numbers
-chosen_behind : {X : Type 0} (xs ys : List X) (a : ℕ) → a ≡ length xs → chosen (xs ++ ys) (range_with_len a (length ys)) ≡ ys
-chosen_behind xs [] a front = refl
-chosen_behind {X} xs (y ∷ ys) a front =
-    let at : slice_get (xs ++ y ∷ ys) a ≡ Some y = rw front (at_length xs y ys) in
-    let regrouped : (xs ++ y ∷ []) ++ ys ≡ xs ++ y ∷ ys = append_assoc xs (y ∷ []) ys in
-    let rest : chosen ((xs ++ y ∷ []) ++ ys) (range_with_len (a + 1) (length ys)) ≡ ys =
-    chosen_behind (xs ++ y ∷ []) ys (a + 1) (let e = length_push xs y in omega arith) in
-    let rest_here : chosen (xs ++ y ∷ ys) (range_with_len (a + 1) (length ys)) ≡ ys =
-    subst (λ (zs : List X). chosen zs (range_with_len (a + 1) (length ys)) ≡ ys) regrouped rest in
-    ap (λ o. cons_option o (chosen (xs ++ y ∷ ys) (range_with_len (a + 1) (length ys)))) at ∙ ap (λ zs. y ∷ zs) rest_here
-
--- all are chosen by the numbers below their count
-pub chosen_whole : {X : Type 0} (xs : List X) → chosen xs (range_with_len 0 (length xs)) ≡ xs
-chosen_whole xs = chosen_behind [] xs 0 refl

@@ -1,3 +1,3 @@
 pub mod Peeling
-pub mod Rounds
+pub mod UnderWay
 pub mod Law

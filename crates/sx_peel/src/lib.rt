@@ -5,11 +5,10 @@
 ghost use Rattle.std.specs.Prelude.{◌≡◌, ◌+◌, ◌*◌, ◌<◌, ◌^◌, All, IfOk, length};
 ghost use Rattle.sx_peel.specs.Peeling.{IsEdgeWithin, IsPeeled};
 
-mod degrees;
 pub mod law;
-mod rounds;
+mod peeling;
 
-use rounds::Peeling;
+use peeling::{Peeling, edges_left, linked};
 use std::alloc::{AllocError, Global};
 pub use sx_spec::Edge;
 
@@ -41,13 +40,14 @@ pub fn peel(alloc: Global, vertices: u32, edges: &[Edge]) -> Result<Peeled, Allo
     requires few { 3 * length edges.now < 2 ^ 32 }
     ensures { IfOk result (λ p. IsPeeled edges.now p) }
 {
-    let mut peeling = Peeling::new(alloc, vertices, edges)?;
-    while peeling.is_unfinished() {
-        if !peeling.round(edges)? {
-            return Ok(Peeled::Core(peeling.into_left()));
-        }
+    let mut links = linked(alloc, vertices, edges)?;
+    let mut peeling = Peeling::new(alloc, vertices, &links, edges)?;
+    peeling.run(&mut links, edges)?;
+    if peeling.has_taken(edges.len()) {
+        Ok(Peeled::Order(peeling.into_order()))
+    } else {
+        Ok(Peeled::Core(edges_left(alloc, &links, edges)?))
     }
-    Ok(Peeled::Order(peeling.into_order()))
 }
 
 #[cfg(test)]
