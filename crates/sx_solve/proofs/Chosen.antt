@@ -2,6 +2,7 @@
 use Rattle.std.proofs.Common.{◌≡◌, ◌≢◌, ℕ, zero, suc, ◌+◌, ◌*◌, ◌%◌, ◌<◌, ◌≤◌, Bool, true, false, cond, List, [], ◌∷◌, ◌++◌, length, map, refl, sym, ap, subst, ◌∙◌, arith, Some, inl, inr, ◌⊎◌}
 use Rattle.std.specs.Prelude.{◌==◌, slice_get, bit_xor, filter}
 use Rattle.std.specs.List.{AllByRecursion, cons_option, range_with_len}
+use Rattle.std.proofs.lemmas.Bool.{cases_lt}
 use Rattle.std.proofs.lemmas.Bool.Decides.{Decides-eqb}
 use Rattle.std.proofs.lemmas.List.{append_assoc, length_push}
 use Rattle.std.proofs.lemmas.List.Elements.{filter-append}
@@ -10,6 +11,7 @@ use Rattle.std.proofs.lemmas.List.Sums.{sum_by-append}
 use Rattle.sx_spec_strings.proofs.Lists.{at_length, below_more, range_rising}
 use Rattle.sx_spec.specs.declared.Equation.{Equation}
 use Rattle.sx_spec.specs.Systems.{unknowns, vertices, count_of, chosen, all_unknowns, xor_all, IsSum}
+use Rattle.sx_spec.proofs.Counts.{all_counted}
 use Rattle.sx_spec.proofs.Sums.{fold_xor}
 use Rattle.sx_solve.specs.declared.rows.Row.{Row}
 use Rattle.sx_solve.specs.Rows.{bit, xor_by, times_by, values, IsContradictory}
@@ -40,7 +42,7 @@ chosen_behind {X} marks xs (y ∷ ys) a front =
 -- ---- sums over what is picked
 
 -- a mark of 1, or none
-mark_is : (m : ℕ) → m < 2 → ((m ≡ 1) × ((m == 1) ≡ true)) ⊎ ((m ≡ 0) × ((m == 1) ≡ false))
+pub mark_is : (m : ℕ) → m < 2 → ((m ≡ 1) × ((m == 1) ≡ true)) ⊎ ((m ≡ 0) × ((m == 1) ≡ false))
 mark_is m small = elim (m == 1) as (λ b. (m == 1) ≡ b → ((m ≡ 1) × (b ≡ true)) ⊎ ((m ≡ 0) × (b ≡ false))) [
   | true ↦ λ e. inl ((Decides-eqb m 1).0 e, refl)
   | false ↦ λ e. inr (
@@ -133,6 +135,26 @@ marked_sum equations marks small even differs =
     some_number : (numbers : List ℕ) → xor_all (map (λ q. q.value) (chosen equations numbers)) ≡ xor_by marks 0 (values equations) → 0 < length numbers
     some_number [] value = absurd (differs (sym value))
     some_number (n ∷ numbers) value = omega arith
+
+-- marked equations that are a sum
+pub sum_marked : (equations : List Equation) (marks : ℕ → ℕ) → ((j : ℕ) → marks j < 2)
+    → IsSum equations (filter (λ i. marks i == 1) (range_with_len 0 (length equations)))
+    → ((v : ℕ) → times_by marks 0 equations v % 2 ≡ 0) × (xor_by marks 0 (values equations) ≢ 0)
+sum_marked equations marks small is =
+    let numbers = filter (λ i. marks i == 1) (range_with_len 0 (length equations)) in
+    let those : chosen equations numbers ≡ picked marks 0 equations = chosen_behind marks [] equations 0 refl in
+    let value : xor_all (map (λ q. q.value) (chosen equations numbers)) ≡ xor_by marks 0 (values equations) =
+    ap (λ (qs : List Equation). xor_all (map (λ q. q.value) qs)) those ∙ picked_xor marks small 0 equations in (
+      λ v.
+          let times : count_of v (all_unknowns (chosen equations numbers)) ≡ times_by marks 0 equations v = ap (λ (qs : List Equation). count_of v (all_unknowns qs)) those ∙ picked_times marks small 0 equations v in
+          elim (cases_lt 0 (count_of v (all_unknowns (chosen equations numbers)))) [
+            | inl some ↦
+                let even = all_counted (λ u. count_of u (all_unknowns (chosen equations numbers)) % 2 ≡ 0) (all_unknowns (chosen equations numbers)) v is.sum.even some in
+                ap (λ n. n % 2) (sym times) ∙ even
+            | inr none ↦ omega arith
+          ],
+      λ zero_value. is.sum.value (value ∙ zero_value),
+    )
 
 -- a row without unknowns
 pub contradictory_sum : (equations : List Equation) (r : Row) → IsContradictory equations r

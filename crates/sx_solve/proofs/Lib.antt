@@ -5,3 +5,6 @@ pub mod Filled
 pub mod Chosen
 pub mod Taken
 pub mod Deciding
+pub mod Seated
+pub mod Narrow
+pub mod Added

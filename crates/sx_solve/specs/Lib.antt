@@ -1,3 +1,4 @@
 pub mod Solving
 pub mod Rows
 pub mod Law
+pub mod Lazy

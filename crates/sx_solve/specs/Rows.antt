@@ -1,5 +1,6 @@
 -- Rows of bits: a sum of equations, with the set of those that it was made of.
-use Rattle.std.specs.Prelude.{◌≡◌, ◌≢◌, ◌+◌, ◌*◌, ◌/◌, ◌%◌, ◌<◌, ◌≤◌, ℕ, List, [], ◌∷◌, length, map, take, All, AllPairs, bit_xor, slice_index}
+use Rattle.std.specs.Prelude.{◌≡◌, ◌≢◌, ◌+◌, ◌*◌, ◌/◌, ◌%◌, ◌<◌, ◌≤◌, ◌==◌, ℕ, List, [], ◌∷◌, length, map, filter, take, All, AllPairs, bit_xor, slice_index}
+use Rattle.std.specs.List.{range_with_len}
 use Rattle.std.specs.Int.{bit_at}
 use Rattle.sx_spec.specs.declared.Equation.{Equation}
 use Rattle.sx_spec.specs.Systems.{unknowns, vertices, count_of, Solves, IsSum}
@@ -20,6 +21,10 @@ xor_by marks i (x ∷ later) = bit_xor (marks i * x) (xor_by marks (i + 1) later
 abbrev pub times_by : (ℕ → ℕ) → ℕ → List Equation → ℕ → ℕ
 times_by marks i [] v = 0
 times_by marks i (q ∷ later) v = marks i * count_of v (vertices (unknowns q)) + times_by marks (i + 1) later v
+
+-- the numbers below the count whose bits are set, rising
+abbrev pub marked : List ℕ → ℕ → List ℕ
+marked words count = filter (λ i. bit words i == 1) (range_with_len 0 count)
 
 -- the values of the equations
 abbrev pub values : List Equation → List ℕ

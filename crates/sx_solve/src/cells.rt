@@ -23,7 +23,7 @@ pub(crate) fn cells_of(alloc: Global, count: usize, rows: &[Row]) -> Result<Vec<
 }
 
 /// So many numbers of 0.
-fn zeros(alloc: Global, count: usize) -> Result<Vec<u64>, AllocError>
+pub(crate) fn zeros(alloc: Global, count: usize) -> Result<Vec<u64>, AllocError>
     ensures { IfOk result (λ v. v.items ≡ replicate count 0) }
 {
     Ok(vec![in alloc; 0; count]?)

@@ -1,4 +1,5 @@
-//! Linear systems over GF(2) with three unknowns an equation, solved by elimination on rows of bits.
+//! Linear systems over GF(2) with three unknowns an equation. Lazy elimination proposes an answer, which is tested; where a
+//! test fails, plain elimination on rows of bits is run.
 #![tactic(auto)]
 
 ghost use Rattle.std.specs.Prelude.{◌≡◌, ◌+◌, ◌*◌, ◌/◌, ◌<◌, ◌^◌, ℕ, All, IfOk, length};
@@ -6,11 +7,22 @@ ghost use Rattle.sx_solve.specs.Solving.{IsEquationWithin, IsSolved};
 
 mod bits;
 mod cells;
+mod crowded;
+mod dense;
 pub mod law;
+mod lazy;
+mod marking;
+mod plain;
+mod propose;
 mod rows;
+mod solution;
+mod standing;
+mod witness;
 
-use cells::cells_of;
-use rows::{Eliminated, eliminate};
+use marking::sum_of;
+use plain::solve_plainly;
+use propose::{Proposed, propose};
+use solution::is_solution;
 use std::alloc::{AllocError, Global};
 pub use sx_spec::Equation;
 
@@ -35,11 +47,22 @@ pub fn solve(alloc: Global, vars: u32, eqs: &[Equation]) -> Result<Solved, Alloc
     requires few { 3 * length eqs.now < 2 ^ 32 }
     ensures { IfOk result (λ s. IsSolved vars eqs.now s) }
 {
-    match eliminate(alloc, vars, eqs)? {
-        Eliminated::Steps(rows) => Ok(Solved::Cells(cells_of(alloc, vars as usize, &rows)?)),
-        Eliminated::Sum(numbers) => Ok(Solved::Sum(numbers)),
+    match propose(alloc, vars, eqs)? {
+        Proposed::Cells(cells) => {
+            if is_solution(vars, eqs, &cells) {
+                return Ok(Solved::Cells(cells));
+            }
+        }
+        Proposed::Sum(marks) => {
+            if let Some(numbers) = sum_of(alloc, vars, eqs, &marks)? {
+                return Ok(Solved::Sum(numbers));
+            }
+        }
     }
+    solve_plainly(alloc, vars, eqs)
 }
 
+#[cfg(test)]
+mod random_tests;
 #[cfg(test)]
 mod tests;

@@ -136,7 +136,7 @@ fn set_of(alloc: Global, count: usize, number: usize) -> Result<Vec<u64>, AllocE
 }
 
 /// The numbers below the count whose bits are set, rising.
-fn numbers_of(alloc: Global, set: &[u64], count: u32) -> Result<Vec<u32>, AllocError>
+pub(crate) fn numbers_of(alloc: Global, set: &[u64], count: u32) -> Result<Vec<u32>, AllocError>
     requires { count / 64 < length set.now }
     ensures { IfOk result
         (λ v. v.items ≡ filter (λ i. bit set.now i == 1) (range_with_len 0 count)) }

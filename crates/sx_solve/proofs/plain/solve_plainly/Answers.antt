@@ -1,7 +1,7 @@
 use Rattle.std.proofs.Common.{length, subst}
 use Rattle.sx_solve.specs.Rows.{AreRows, IsEliminated}
 use Rattle.sx_solve.proofs.Taken.{solution}
-use Rattle.sx_solve.proofs.solve.Goals as goal
+use Rattle.sx_solve.proofs.plain.solve_plainly.Goals as goal
 
 pub returns-in_ok-cells_of-in-Steps : goal.returns-in_ok-cells_of-in-Steps
 returns-in_ok-cells_of-in-Steps c =
