@@ -22,9 +22,9 @@ use Rattle.sx_parts.specs.Ranking.{signature_at}
 use Rattle.sx_parts.specs.Sectioning.{IsPartDone, header_for}
 use Rattle.sx_trie.specs.declared.nodes.Node.{Node}
 use Rattle.sx_trie.specs.Tries.{IsTrieOf, delimiter_bits}
+use Rattle.sx_handles.specs.declared.parts.ZfastParts.{ZfastParts}
+use Rattle.sx_handles.specs.Parts.{AreZfastParts}
 use Rattle.sx_zfast.specs.declared.correcting.Corrected.{Corrected}
-use Rattle.sx_zfast.specs.declared.parts.ZfastParts.{ZfastParts}
-use Rattle.sx_zfast.specs.Parts.{AreZfastParts}
 use Rattle.sx_assemble.specs.declared.zfast.Built.{Built}
 use Rattle.sx_assemble.specs.declared.zfast.CorrectionLists.{CorrectionLists}
 use Rattle.sx_assemble.specs.declared.zfast.Field.{Field}

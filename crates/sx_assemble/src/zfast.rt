@@ -28,6 +28,7 @@ use sx_fields::bank::Words;
 use sx_fields::fields::Fields;
 use sx_fields::packed::Packed;
 use sx_fields::packed_buf::PackedBuf;
+use sx_handles::{ZfastParts, zfast_parts};
 use sx_parts::layout::{SectionBuf, least_list};
 use sx_parts::numbers::{numbers_to, widened};
 use sx_parts::parts::{Stop, build_least};
@@ -39,7 +40,7 @@ use sx_signed::SignedView;
 use sx_static::{FuncBuf, FuncView};
 use sx_steps::Steps;
 use sx_trie::{Node, Trie};
-use sx_zfast::{Corrected, ZfastParts, corrections, zfast_parts};
+use sx_zfast::{Corrected, corrections};
 
 /// A number of an inner node.
 #[derive(Clone, Copy)]

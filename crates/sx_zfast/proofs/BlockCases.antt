@@ -1,5 +1,5 @@
 -- The block, case by case, and the nodes of four lists.
-use Rattle.std.proofs.Common.{◌≡◌, ℕ, zero, suc, ◌+◌, ◌-◌, ◌%◌, ◌<◌, ◌≤◌, List, [], ◌∷◌, length, map, get_or, Option, Some, None, refl, sym, ap, ◌∙◌, arith}
+use Rattle.std.proofs.Common.{◌≡◌, ℕ, zero, suc, ◌%◌, ◌<◌, List, [], ◌∷◌, length, map, get_or, Option, Some, None, refl, sym, ap, ◌∙◌, arith}
 use Rattle.sx_spec_strings.specs.Bits.{Bits}
 use Rattle.sx_spec_kinds.specs.Trie.{Node, node_at}
 use Rattle.sx_spec_kinds.specs.Zfast.{HandleMap, block_from, corrected_or, plain_block, probed_search_of, zfast_block}

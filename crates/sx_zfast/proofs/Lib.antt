@@ -3,17 +3,6 @@ pub mod MemoLaws
 pub mod SearchStages
 pub mod ProbeStages
 pub mod MisledKeys
-pub mod Handled
-pub mod Beside
-pub mod KeyBlocks
-pub mod Grown
-pub mod WayWalk
-pub mod WaysBeside
-pub mod OnWay
-pub mod NodeHandles
-pub mod KeyCodes
-pub mod CodesByNodes
-pub mod NodeCodes
 pub mod SignatureOrder
 pub mod MapNodes
 pub mod SearchTurns

@@ -10,8 +10,8 @@ use Rattle.sx_spec_kinds.specs.Blocks.{block_of}
 use Rattle.sx_spec_kinds.specs.Trie.{extents_of, node_at}
 use Rattle.sx_spec_kinds.specs.Zfast.{HandleMap, Corrected as SpecCorrected, probed_search_of, false_probes, is_block, is_misled, misled_keys, corrections_of, block_from, code_of}
 use Rattle.sx_trie.specs.Tries.{Contents, IsTrieOf, delimiter_bits}
+use Rattle.sx_handles.specs.Ways.{key_at}
 use Rattle.sx_zfast.specs.Corrected.{corrected_as, correction_of}
-use Rattle.sx_zfast.specs.Ways.{key_at}
 use Rattle.sx_zfast.specs.declared.correcting.Corrected.{Corrected}
 use Rattle.sx_zfast.proofs.MemoLaws.{same_front}
 use Rattle.sx_zfast.proofs.ProbeStages.{lens_in}

@@ -1,26 +1,20 @@
 //! The z-fast distributor: fat binary search among the prefixes of a string for the deepest node of a
 //! trie of delimiters whose handle is one of them, where of each handle only some bits of its
-//! signature are kept; a code of each key, which tells the block from that node; and the corrections
-//! of just those keys that a false answer misleads.
+//! signature are kept, and a code of each key tells the block from that node; and the corrections of
+//! just those keys that a false answer misleads.
 #![tactic(auto)]
 
-mod blocks;
 mod corrected;
 mod correcting;
 mod memo;
-mod parts;
 mod probing;
 mod reach;
 mod signing;
 mod view;
-mod ways;
 
 pub use corrected::Corrections;
 pub use correcting::{Corrected, corrections};
-pub use parts::{ZfastParts, zfast_parts};
 pub use view::ZfastView;
 
-#[cfg(test)]
-mod tests;
 #[cfg(test)]
 mod view_tests;

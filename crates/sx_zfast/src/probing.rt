@@ -1,24 +1,24 @@
 //! The searches of a key while its distributor is built: the one that is told of each handle and of no
 //! other string, and the one that asks what is kept of the handles.
 
-ghost use Rattle.std.specs.Prelude.{◌≡◌, ◌+◌, ◌<◌, ◌≤◌, IfSome, List, length, map as mapped, take, slice_index};
+ghost use Rattle.std.specs.Prelude.{◌≡◌, ◌+◌, ◌<◌, ◌≤◌, IfSome, List, is_some, length, map as mapped, take, slice_index};
 ghost use Rattle.sx_spec_strings.specs.Bits.{Bits};
 ghost use Rattle.sx_spec_kinds.specs.Search.{handles_of, reached as node_reached};
 ghost use Rattle.sx_spec_kinds.specs.Trie.{IsTrie, extents_of};
 ghost use Rattle.sx_spec_kinds.specs.Zfast.{KnowsHandles, false_probes, probed_node, probed_search_of};
 ghost use Rattle.sx_bits.specs.Views.{bits_of};
 ghost use Rattle.sx_trie.specs.Tries.{IsTrieOf, delimiter_bits};
+ghost use Rattle.sx_handles.specs.Ways.{IsWayOf};
 ghost use Rattle.sx_zfast.specs.Maps.{map_read};
 ghost use Rattle.sx_zfast.specs.Memo.{AreKnown};
-ghost use Rattle.sx_zfast.specs.Ways.{IsWayOf};
 
 use crate::memo::Memo;
 use crate::reach::Reach;
 use crate::signing::Signing;
-use crate::ways::Way;
 use std::sync::ledger::Ledger;
 use sx_bits::{BitView, KeyList};
 use sx_fields::bank::WordBank;
+use sx_handles::Way;
 use sx_sig::sign;
 use sx_signed::SignedView;
 use sx_steps::Steps;
@@ -142,6 +142,31 @@ pub(crate) fn probed_search<B: WordBank + Copy, L: Ledger>(
     }
 }
 
+/// Whether a map leads the first `len` bits of a string, of which it has as many and which are some,
+/// to a node of a trie. Beyond the longest extent it leads to none, and nothing is signed.
+fn misleads<B: WordBank + Copy, L: Ledger>(
+    reach: &Reach<'_>,
+    map: &SignedView<B>,
+    view: &BitView<'_>,
+    len: u32,
+    signing: Signing,
+    steps: &mut Steps<L>,
+) -> bool
+    requires some { 0 < len }
+    requires inside { len ≤ length (bits_of view.now) }
+    ensures value { result ≡ is_some (node_reached
+        (mapped (λ w. w.extent) reach.now.trie.now.nodes) len
+        (probed_node (map_read map.now signing.seed signing.sig_bits)
+        (take len (bits_of view.now)))) }
+    ensures counted { steps.old ≤ steps.new }
+{
+    if len > reach.longest {
+        return false;
+    }
+    let answer = probed(map, view, len, signing, steps);
+    reached(reach.trie, answer, len).is_some()
+}
+
 /// The first length that the search of a key asks that is told of each handle and of no other string,
 /// at which the map misleads; 0 where there is none.
 pub(crate) fn first_false_probe<B: WordBank + Copy, L: Ledger>(
@@ -172,17 +197,13 @@ pub(crate) fn first_false_probe<B: WordBank + Copy, L: Ledger>(
             return 0;
         }
         let len = fattest(depth, limit);
-        if len > reach.longest {
-            limit = len - 1;
-            continue;
-        }
         match way.handled(len) {
             Some(node) => match reached(trie, Some(u64::from(node)), len) {
                 Some(node) => at = node,
                 None => limit = len - 1,
             },
             None => {
-                if reached(trie, probed(map, view, len, signing, steps), len).is_some() {
+                if misleads(reach, map, view, len, signing, steps) {
                     return len;
                 }
                 limit = len - 1;

@@ -13,7 +13,6 @@ ghost use Rattle.sx_trie.specs.Tries.{node_of};
 ghost use Rattle.sx_zfast.specs.Largest.{largest};
 ghost use Rattle.sx_zfast.specs.Maps.{map_read, numbers_read};
 
-use crate::blocks::block_from;
 use crate::corrected::Corrections;
 use crate::probing::probed;
 use crate::signing::Signing;
@@ -24,6 +23,7 @@ use sx_bits::BitView;
 use sx_fields::bank::WordBank;
 use sx_fields::fields::Fields;
 use sx_fields::packed::Packed;
+use sx_handles::block_from;
 use sx_signed::SignedView;
 use sx_spec::Signature;
 use sx_static::FuncView;

@@ -1,13 +1,13 @@
 use Rattle.std.proofs.Common.{◌≡◌, ℕ, not, sym, ap, subst, ◌∙◌, arith}
 use Rattle.sx_spec_strings.specs.Bits.{Bits}
 use Rattle.sx_spec_kinds.specs.Trie.{Node, node_at, extents_of}
-use Rattle.sx_spec_kinds.specs.Zfast.{block_from, code_of, false_probes, probed_search_of, is_block}
+use Rattle.sx_spec_kinds.specs.Zfast.{block_from, code_of, false_probes, probed_search_of}
 use Rattle.std.specs.List.{slice_index}
 use Rattle.sx_bits.specs.Views.{bits_of}
 use Rattle.sx_trie.specs.Tries.{delimiter_bits}
+use Rattle.sx_handles.specs.Ways.{IsWayOf, key_at}
 use Rattle.sx_zfast.specs.Maps.{map_read}
 use Rattle.sx_zfast.specs.Memo.{AreKnown}
-use Rattle.sx_zfast.specs.Ways.{IsWayOf, key_at}
 use Rattle.sx_zfast.proofs.ProbeStages.{lens_in}
 use Rattle.sx_zfast.proofs.MisledKeys.{view_bits, code_read, codes_count, misled_is, none_corrected, some_corrected}
 use Rattle.sx_zfast.proofs.correcting.correction.Goals as goal

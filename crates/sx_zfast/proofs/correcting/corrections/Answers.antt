@@ -1,10 +1,10 @@
 use Rattle.std.proofs.Common.{◌≡◌, ◌+◌, ◌-◌, ℕ, List, Vec, Global, refl, sym, ap, subst, ◌∙◌, arith}
 use Rattle.std.specs.Prelude.{option_map}
 use Rattle.sx_trie.specs.Tries.{Contents, delimiter_bits}
+use Rattle.sx_handles.specs.Ways.{key_at, key_block}
 use Rattle.sx_zfast.specs.Corrected.{corrected_as, correction_of}
 use Rattle.sx_zfast.specs.Maps.{map_read}
 use Rattle.sx_zfast.specs.Memo.{AreKnown}
-use Rattle.sx_zfast.specs.Ways.{key_at, key_block}
 use Rattle.sx_zfast.specs.declared.correcting.Corrected.{Corrected}
 use Rattle.sx_zfast.proofs.MisledKeys.{HasMisled, misled_starts, misled_more, misled_same, misled_whole, none_misled}
 use Rattle.sx_zfast.proofs.correcting.corrections.Goals as goal

@@ -1,8 +1,8 @@
 use Rattle.std.proofs.Common.{◌≡◌, ◌-◌, ◌<◌, ◌≤◌}
 use Rattle.sx_trie.specs.Tries.{delimiter_bits}
+use Rattle.sx_handles.specs.Ways.{AreWaysBeside, key_at, key_block}
 use Rattle.sx_zfast.specs.Maps.{map_read}
 use Rattle.sx_zfast.specs.Memo.{AreKnown}
-use Rattle.sx_zfast.specs.Ways.{AreWaysBeside, key_at, key_block}
 use Rattle.sx_zfast.proofs.MisledKeys.{HasMisled}
 use Rattle.sx_zfast.proofs.correcting.corrections.Given as goal
 

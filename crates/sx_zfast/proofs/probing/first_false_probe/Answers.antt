@@ -1,10 +1,9 @@
 use Rattle.std.proofs.Common.{◌≡◌, Some, refl, sym, ap, ◌∙◌, arith}
-use Rattle.std.specs.Prelude.{take, is_some}
+use Rattle.std.specs.Prelude.{take}
 use Rattle.sx_spec_kinds.specs.Trie.{Node}
-use Rattle.sx_spec_kinds.specs.Search.{handle_node, handles_of, reached}
+use Rattle.sx_spec_kinds.specs.Search.{handle_node, handles_of}
 use Rattle.sx_bits.specs.Views.{bits_of}
 use Rattle.sx_zfast.specs.Maps.{map_read}
-use Rattle.sx_zfast.proofs.Beyond.{telling_beyond}
 use Rattle.sx_zfast.proofs.ProbeStages.{lens_in, extents_in, is_trie, nodes_some, telling_starts, telling_ends, telling_finds, telling_onward, telling_shorter, handle_no_probe, other_probe, none_reached, deeper}
 use Rattle.sx_zfast.proofs.probing.first_false_probe.Goals as goal
 
@@ -21,23 +20,6 @@ loop-limit-init g c =
 pub returns-then-limit-depth-clause-value : goal.returns-then-limit-depth-clause-value
 returns-then-limit-depth-clause-value g c =
     telling_ends (map_read c.args.map.now c.args.signing.seed c.args.signing.sig_bits) c.args.keys.now.lines c.args.reach.now.trie.now (bits_of c.args.view.now) c.loop-limit.at c.loop-limit.limit c.node-depth.result.extent c.loop-limit.invariant.search (ap (λ (n : Node). n.extent) c.node-depth.ensures) c.if-limit-depth.true
-
-pub loop-limit-preserved-then-len-reach : goal.loop-limit-preserved-then-len-reach
-loop-limit-preserved-then-len-reach g c =
-    let over = c.if-limit-depth.false in
-    let long = c.loop-limit.invariant.limit in
-    let within = c.fattest-len.ensures.within in
-    record {
-      counted = c.loop-limit.invariant.counted;
-      inside = c.loop-limit.invariant.inside;
-      limit = omega arith;
-      search = telling_beyond (map_read c.args.map.now c.args.signing.seed c.args.signing.sig_bits) c.args.keys.now.lines c.args.reach.now.trie.now (bits_of c.args.view.now) c.loop-limit.at c.loop-limit.limit c.node-depth.result.extent c.fattest-len.result c.args.reach.now.longest
-          c.requires.built
-          c.loop-limit.invariant.search
-          (record { deep = ap (λ (n : Node). n.extent) c.node-depth.ensures; more = omega arith; inside = long; size = c.fattest-len.ensures.value })
-          c.args.reach.now.longest_extent
-          c.if-len-reach.true;
-    }
 
 pub loop-limit-smaller-in-Some-reached : goal.loop-limit-smaller-in-Some-reached
 loop-limit-smaller-in-Some-reached g c =
@@ -92,8 +74,8 @@ loop-limit-preserved-in-None-reached g c =
           (handle_no_probe (map_read c.args.map.now c.args.signing.seed c.args.signing.sig_bits) (extents_in lines t) x c.fattest-len.result c.in-Some.node (sym told ∙ c.in-Some.is));
     }
 
-pub returns-then-is_some-clause-value : goal.returns-then-is_some-clause-value
-returns-then-is_some-clause-value g c =
+pub returns-then-misleads-clause-value : goal.returns-then-misleads-clause-value
+returns-then-misleads-clause-value g c =
     let m = map_read c.args.map.now c.args.signing.seed c.args.signing.sig_bits in
     let lines = c.args.keys.now.lines in
     let t = c.args.reach.now.trie.now in
@@ -104,12 +86,8 @@ returns-then-is_some-clause-value g c =
     let told : c.handled.result ≡ handle_node (handles_of (extents_in lines t)) (take c.fattest-len.result x) =
     c.handled.ensures (extents_in lines t) x (is_trie lines t c.requires.built) c.requires.way (omega arith)
     in
-    let misleads = other_probe m lines t x c.fattest-len.result c.probed.result c.requires.built (omega arith) (sym told ∙ c.in-None.is) c.probed.ensures.value in
-    let found : is_some (reached (lens_in t.nodes) c.fattest-len.result c.probed.result) ≡ _ =
-    ap is_some (sym c.reached-in-None.ensures.value) ∙ sym c.is_some.ensures ∙ c.if-is_some.true
-    in
     telling_finds m lines t x c.loop-limit.at c.loop-limit.limit c.node-depth.result.extent c.fattest-len.result c.loop-limit.invariant.search (ap (λ (n : Node). n.extent) c.node-depth.ensures) (omega arith) c.fattest-len.ensures.value
-    (misleads ∙ found)
+    (other_probe m lines t x c.fattest-len.result _ c.requires.built (omega arith) (sym told ∙ c.in-None.is) refl ∙ sym c.misleads.ensures.value ∙ c.if-misleads.true)
 
 pub loop-limit-preserved : goal.loop-limit-preserved
 loop-limit-preserved g c =
@@ -121,13 +99,9 @@ loop-limit-preserved g c =
     let long = c.loop-limit.invariant.limit in
     let within = c.fattest-len.ensures.within in
     let counted = c.loop-limit.invariant.counted in
-    let more = c.probed.ensures.counted in
+    let more = c.misleads.ensures.counted in
     let told : c.handled.result ≡ handle_node (handles_of (extents_in lines t)) (take c.fattest-len.result x) =
     c.handled.ensures (extents_in lines t) x (is_trie lines t c.requires.built) c.requires.way (omega arith)
-    in
-    let misleads = other_probe m lines t x c.fattest-len.result c.probed.result c.requires.built (omega arith) (sym told ∙ c.in-None.is) c.probed.ensures.value in
-    let found : is_some (reached (lens_in t.nodes) c.fattest-len.result c.probed.result) ≡ _ =
-    ap is_some (sym c.reached-in-None.ensures.value) ∙ sym c.is_some.ensures ∙ c.if-is_some.false
     in
     record {
       counted = omega arith;
@@ -138,5 +112,5 @@ loop-limit-preserved g c =
           (record { deep = ap (λ (n : Node). n.extent) c.node-depth.ensures; more = omega arith; inside = long; size = c.fattest-len.ensures.value })
           told
           (none_reached (lens_in t.nodes) c.fattest-len.result c.handled.result c.in-None.is)
-          (misleads ∙ found);
+          (other_probe m lines t x c.fattest-len.result _ c.requires.built (omega arith) (sym told ∙ c.in-None.is) refl ∙ sym c.misleads.ensures.value ∙ c.if-misleads.false);
     }

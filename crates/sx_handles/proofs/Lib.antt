@@ -1,0 +1,11 @@
+pub mod Handled
+pub mod Beside
+pub mod KeyBlocks
+pub mod Grown
+pub mod WayWalk
+pub mod WaysBeside
+pub mod OnWay
+pub mod NodeHandles
+pub mod KeyCodes
+pub mod CodesByNodes
+pub mod NodeCodes
