@@ -1,7 +1,7 @@
 //! The walk of a string by the lists of a hollow trie of delimiters, and by a function that knows at
 //! each node on which side of all delimiters below it a string lies that doesn't go on there.
 
-ghost use Rattle.std.specs.Prelude.{◌≡◌, ◌+◌, ◌*◌, ◌<◌, ◌≤◌, ◌^◌, IfNone, IfOk, IfSome, Some, length, max};
+ghost use Rattle.std.specs.Prelude.{◌≡◌, ◌+◌, ◌*◌, ◌<◌, ◌≤◌, ◌^◌, IfOk, Some, length, max};
 ghost use Rattle.std.specs.List.{slice_index};
 ghost use Rattle.sx_spec_strings.specs.Bits.{tagged};
 ghost use Rattle.sx_spec.specs.Reply.{gaps};
@@ -16,7 +16,7 @@ ghost use Rattle.sx_hollow.specs.Walks.{stand_of};
 
 use crate::gap::gap;
 use crate::keeping::top_of;
-use crate::top::{Entry, HALF, NOT_KEPT, SIZE};
+use crate::top::{Entry, HALF, NOT_KEPT, kept};
 use crate::turning::{Walk, turned, turned_at_leaf};
 use crate::walk::Stand;
 use std::alloc::{AllocError, Global};
@@ -221,7 +221,7 @@ impl<B: WordBank + Copy> HollowDistView<B> {
         ensures children { steps.new + reserve result.children
             ≤ steps.old + (152 + reserve at.now.place) }
     {
-        if let Some(entry) = self.kept(at, steps) {
+        if let Some(entry) = kept(&self.top, at, steps) {
             return entry;
         }
         let left = gap(&self.left, at.node as usize, steps);
@@ -236,38 +236,5 @@ impl<B: WordBank + Copy> HollowDistView<B> {
             skip,
             children: NOT_KEPT,
         }
-    }
-
-    /// What is kept of the inner node at which a walk stands, if it is kept. At most 2 words are read,
-    /// and where it isn't, at most one.
-    #[inline(always)]
-    fn kept<L: Ledger>(&self, at: &Stand, steps: &mut Steps<L>) -> Option<Entry>
-        ensures node { IfSome result (λ e. e.node ≡ at.now.node) }
-        ensures left { IfSome result (λ e. e.left
-            ≡ slice_index (gaps (sums_read self.now.left)) at.now.node) }
-        ensures skip { IfSome result (λ e. e.skip
-            ≡ slice_index (gaps (sums_read self.now.skip)) at.now.node) }
-        ensures counted { steps.old ≤ steps.new }
-        ensures cost { IfSome result (λ _. steps.new ≤ steps.old + 2) }
-        ensures missed { IfNone result (steps.new ≤ steps.old + reserve at.now.place) }
-    {
-        if at.place == NOT_KEPT {
-            return None;
-        }
-        let first = SIZE * at.place as usize;
-        if first + 1 >= self.top.words() {
-            return None;
-        }
-        let low = self.top.word(first, steps);
-        if low % HALF != at.node {
-            return None;
-        }
-        let high = self.top.word(first + 1, steps);
-        Some(Entry {
-            node: at.node,
-            left: low / HALF,
-            skip: high % HALF,
-            children: (high / HALF) as u32,
-        })
     }
 }

@@ -1,16 +1,16 @@
 //! The walk of a string by the lists of a hollow trie.
 
-ghost use Rattle.std.specs.Prelude.{◌≡◌, ◌+◌, ◌-◌, ◌*◌, ◌<◌, ◌≤◌, ◌^◌, IfOk, IfSome, length, max};
+ghost use Rattle.std.specs.Prelude.{◌≡◌, ◌+◌, ◌-◌, ◌*◌, ◌<◌, ◌≤◌, ◌^◌, IfOk, length, max};
 ghost use Rattle.sx_spec.specs.Reply.{gaps};
 ghost use Rattle.sx_spec_kinds.specs.Hollow.{goes, walk_of};
 ghost use Rattle.sx_bits.specs.Views.{bits_of};
-ghost use Rattle.sx_hollow.specs.Tops.{AreKept, IsEntryOf};
+ghost use Rattle.sx_hollow.specs.Tops.{AreKept};
 ghost use Rattle.sx_hollow.specs.Views.{sums_read};
 ghost use Rattle.sx_hollow.specs.Walks.{RestOf, stand_of};
 
 use crate::cursors::Cursors;
 use crate::keeping::top_of;
-use crate::top::{Entry, HALF, SIZE};
+use crate::top::kept;
 use crate::walk::Stand;
 use std::alloc::{AllocError, Global};
 use std::sync::ledger::Ledger;
@@ -85,7 +85,7 @@ impl<B: WordBank + Copy> HollowView<B> {
             if len <= at.pos {
                 return None;
             }
-            let entry = match self.kept(&at, steps) {
+            let entry = match kept(&self.top, &at, steps) {
                 Some(entry) => entry,
                 None => return self.answer_by_lists(at, view, steps),
             };
@@ -131,31 +131,5 @@ impl<B: WordBank + Copy> HollowView<B> {
             };
             at = next;
         }
-    }
-
-    /// What is kept of the inner node at which a walk stands, if it is kept. At most 2 words are read.
-    #[inline(always)]
-    fn kept<L: Ledger>(&self, at: &Stand, steps: &mut Steps<L>) -> Option<Entry>
-        ensures node { IfSome result (λ e. e.node ≡ at.now.node) }
-        ensures numbers { IfSome result (IsEntryOf (gaps (sums_read self.now.left))
-            (gaps (sums_read self.now.skip))) }
-        ensures counted { steps.old ≤ steps.new }
-        ensures cost { steps.new ≤ steps.old + 2 }
-    {
-        let first = SIZE * at.place as usize;
-        if first + 1 >= self.top.words() {
-            return None;
-        }
-        let low = self.top.word(first, steps);
-        if low % HALF != at.node {
-            return None;
-        }
-        let high = self.top.word(first + 1, steps);
-        Some(Entry {
-            node: at.node,
-            left: low / HALF,
-            skip: high % HALF,
-            children: (high / HALF) as u32,
-        })
     }
 }

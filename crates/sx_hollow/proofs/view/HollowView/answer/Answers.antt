@@ -35,7 +35,7 @@ returns-in_err-at-clause-value g c =
     let skip = gaps (sums_read v.skip) in
     let x = bits_of c.args.view.now in
     let at = c.loop-at.at in
-    let is = step_by_entry left skip x (stand_of at) lost c.in-Some.entry c.loop-at-test.true c.in-Some.ensures.node c.in-Some.ensures.numbers c.in_err-at.ensures.value in
+    let is = step_by_entry left skip x (stand_of at) lost c.in-Some.entry c.loop-at-test.true c.in-Some.ensures.node (c.in-Some.ensures.numbers left skip v.kept) c.in_err-at.ensures.value in
     c.from_residual.ensures ∙ rest_lost left skip v.keys x (goes (stand_of at)) at.leaves c.loop-at.invariant.rest is
 
 pub loop-at-preserved : goal.loop-at-preserved
@@ -46,7 +46,7 @@ loop-at-preserved g c =
     let x = bits_of c.args.view.now in
     let at = c.loop-at.at in
     let next = c.in_ok-at.at in
-    let is = step_by_entry left skip x (stand_of at) (goes (stand_of next)) c.in-Some.entry c.loop-at-test.true c.in-Some.ensures.node c.in-Some.ensures.numbers c.in_ok-at.ensures.value in
+    let is = step_by_entry left skip x (stand_of at) (goes (stand_of next)) c.in-Some.entry c.loop-at-test.true c.in-Some.ensures.node (c.in-Some.ensures.numbers left skip v.kept) c.in_ok-at.ensures.value in
     let farther = c.in_ok-at.ensures.farther in
     let counted = c.kept.ensures.counted in
     let cost = c.kept.ensures.cost in
