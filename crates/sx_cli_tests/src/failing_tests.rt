@@ -1,9 +1,10 @@
-//! Whole runs of which each call fails once.
-ghost use Rattle.std.specs.Prelude.{◌≡◌, ◌<◌, ◌≤◌, IfOk};
-ghost use Rattle.sx_memory.specs.InUse.{use_of};
-ghost use Rattle.sx_edge.specs.Shelf.{idle};
+//! Whole runs of which each call fails once: for each object the first, the second and so on, until
+//! a run has no such call.
 
+use crate::faults::{Ended, Job, Schedule, are_last_calls, creates, split_at_fault};
 use crate::tests::{run_once, words_of};
+use crate::waiting_tests::feeds_in;
+use crate::watched::Object;
 use std::alloc::{AllocError, Global};
 use std::process::Abort;
 use std::test::Fail;
@@ -12,237 +13,301 @@ use sx_memory::sink::MemSink;
 use sx_memory::source::MemSource;
 use sx_spec::Status;
 
-/// A run: its words, what input gives, and the files D and V, which aren't there where they are
-/// empty.
-#[derive(Clone, Copy)]
-pub(crate) struct Job<'a> {
-    line: &'a str,
-    input: &'a [u8],
-    dump: &'a [u8],
-    values: &'a [u8],
-    /// How many calls of the shelf are for the values.
-    values_calls: u64,
-}
+/// More calls than a run of these tests makes on an object.
+const MANY: u64 = 1000;
 
-impl<'a> Job<'a> {
-    /// A job without a values file.
-    pub(crate) fn plain(line: &'a str, input: &'a [u8], dump: &'a [u8]) -> Job<'a> {
-        Job {
-            line,
-            input,
-            dump,
-            values: b"",
-            values_calls: 0,
-        }
-    }
-}
-
-/// Which call of each object fails, counted from 1; 0 for none.
-#[derive(Clone, Copy)]
-struct Failing {
-    files: u64,
-    input: u64,
-    out: u64,
-    err: u64,
-}
-
-const CALM: Failing = Failing {
-    files: 0,
-    input: 0,
-    out: 0,
-    err: 0,
-};
-
-/// A run that has ended, and the objects that it leaves.
-#[derive(Drop)]
-struct Ended {
-    status: Status,
-    files: MemShelf,
-    input: MemSource,
-    out: MemSink,
-    err: MemSink,
-}
-
-/// The files of a job.
-fn shelf_for(alloc: Global, job: &Job<'_>, fails: u64) -> Result<MemShelf, AllocError>
-    ensures { IfOk result (λ files. use_of files.used ≡ idle) }
-{
-    let mut files = MemShelf::new(alloc, Vec::from_slice(alloc, &[fails])?);
-    files.room("D", 2000)?;
-    if !job.dump.is_empty() {
-        files.put("D", job.dump)?;
-    }
-    if !job.values.is_empty() {
-        files.put("V", job.values)?;
-    }
-    Ok(files)
-}
-
-/// Runs a job whose objects give 3 bytes a read and take 8 a write.
-fn run_job(alloc: Global, job: &Job<'_>, failing: Failing) -> Result<Ended, AllocError> {
-    let words = words_of(alloc, job.line)?;
-    let mut files = shelf_for(alloc, job, failing.files)?;
-    let bytes = Vec::from_slice(alloc, job.input)?;
-    let mut input = MemSource::new(bytes, 3, Vec::from_slice(alloc, &[failing.input])?);
-    let mut out = MemSink::new(alloc, 1000, 8, Vec::from_slice(alloc, &[failing.out])?)?;
-    let mut err = MemSink::new(alloc, 1000, 8, Vec::from_slice(alloc, &[failing.err])?)?;
-    let status = run_once(alloc, &words, &mut files, &mut input, &mut out, &mut err);
-    Ok(Ended {
-        status,
-        files,
-        input,
-        out,
-        err,
-    })
-}
-
-/// The bytes of the file D, or none where it isn't there.
-fn dump_in(files: &MemShelf) -> &[u8] {
-    match files.bytes("D") {
-        Some(bytes) => bytes,
-        None => b"",
-    }
-}
-
-/// Compares what a run with a failed call leaves with what is due.
-fn expect_fault(rt: &impl Abort, job: &Job<'_>, due: &Ended, ended: &Ended, text: &str) {
-    assert_eq!(rt; ended.status, Status::Fault);
+/// A call on files failed: out isn't called, and input only by a build, which reads it before.
+fn expect_files_failed(rt: &impl Abort, job: &Job<'_>, due: &Ended, ended: &Ended) {
+    let builds = job.line.starts_with("build");
+    let created = creates(&ended.calls);
+    let text = if builds && !created {
+        "sux: fault: values\n"
+    } else {
+        "sux: fault: dump\n"
+    };
     assert_eq!(rt; ended.err.bytes(), text.as_bytes());
+    assert_eq!(rt; ended.out.calls(), 0);
+    assert!(rt; builds || ended.input.calls() == 0);
+    let begins = created && due.dump().starts_with(ended.dump());
+    assert!(rt; begins || ended.dump() == job.dump);
+}
+
+/// A call on input failed: files are as they were, and a query has answered each line that ended in
+/// what was taken.
+fn expect_input_failed(rt: &impl Abort, job: &Job<'_>, due: &Ended, ended: &Ended) {
+    assert_eq!(rt; ended.err.bytes(), b"sux: fault: input\n".as_slice());
+    assert!(rt; ended.dump() == job.dump);
+    let count = job.input.len().saturating_sub(ended.input.left().len());
+    let answers = if job.line.starts_with("query") {
+        feeds_in(&job.input[..count])
+    } else {
+        0
+    };
+    assert_eq!(rt; feeds_in(ended.out.bytes()), answers);
     assert!(rt; due.out.bytes().starts_with(ended.out.bytes()));
-    let dump = dump_in(&ended.files);
-    let is_written = job.line.starts_with("build") && dump_in(&due.files).starts_with(dump);
-    assert!(rt; is_written || dump == job.dump);
+}
+
+/// A call on out failed: what is due in files is there, and out has less than is due.
+fn expect_out_failed(rt: &impl Abort, due: &Ended, ended: &Ended) {
+    assert_eq!(rt; ended.err.bytes(), b"sux: fault: output\n".as_slice());
+    assert!(rt; ended.dump() == due.dump());
+    assert!(rt; due.out.bytes().starts_with(ended.out.bytes()));
+    assert!(rt; ended.out.bytes().len() < due.out.bytes().len());
+}
+
+/// A call on err failed: files are as they were, out has what is due, and err the beginning of the
+/// message, of which 8 bytes went with each call before, and the one on the fault.
+fn expect_err_failed(rt: &impl Abort, job: &Job<'_>, due: &Ended, ended: &Ended, at: u64) {
+    let note = b"sux: fault: error\n";
+    assert!(rt; ended.err.bytes().ends_with(note));
+    let told = &ended.err.bytes()[..ended.err.bytes().len() - note.len()];
+    assert!(rt; due.err.bytes().starts_with(told));
+    assert_eq!(rt; told.len() % 8, 0);
+    assert_eq!(rt; (told.len() / 8) as u64, at.saturating_sub(1));
+    assert_eq!(rt; ended.out.bytes(), due.out.bytes());
+    assert!(rt; ended.dump() == job.dump);
+}
+
+/// Compares what a run of which one call failed leaves with what is due where none does.
+fn expect_fault(
+    rt: &impl Abort,
+    job: &Job<'_>,
+    due: &Ended,
+    ended: &Ended,
+    object: Object,
+    at: u64,
+) {
+    assert_eq!(rt; ended.status, Status::Fault);
     assert!(rt; ended.files.bytes("V") == due.files.bytes("V"));
+    match object {
+        Object::Files => expect_files_failed(rt, job, due, ended),
+        Object::Input => expect_input_failed(rt, job, due, ended),
+        Object::Out => expect_out_failed(rt, due, ended),
+        Object::Err => expect_err_failed(rt, job, due, ended, at),
+    }
 }
 
-/// Fails each call on files.
-fn each_call_on_files_fails(
+/// Compares what two runs without a failed call leave.
+fn expect_same(rt: &impl Abort, due: &Ended, ended: &Ended) {
+    assert_eq!(rt; ended.status, due.status);
+    assert_eq!(rt; ended.out.bytes(), due.out.bytes());
+    assert_eq!(rt; ended.err.bytes(), due.err.bytes());
+    assert!(rt; ended.dump() == due.dump());
+    assert_eq!(rt; ended.calls.len(), due.calls.len());
+}
+
+/// Fails each call on an object, and gives how many there are.
+fn each_call_on(
     rt: &impl Abort,
     alloc: Global,
     job: &Job<'_>,
     due: &Ended,
-) -> Result<(), Fail> {
-    for at in 1..=due.files.calls() {
-        let ended = run_job(alloc, job, Failing { files: at, ..CALM })?;
-        let text = if at <= job.values_calls {
-            "sux: fault: values\n"
-        } else {
-            "sux: fault: dump\n"
+    object: Object,
+) -> Result<u64, Fail> {
+    for at in 1..MANY {
+        let ended = job.run(alloc, Schedule::Fails { object, at })?;
+        assert_eq!(rt; ended.calls.len() as u64, ended.calls_made());
+        let Some((failed, behind)) = split_at_fault(&ended.calls) else {
+            expect_same(rt, due, &ended);
+            return Ok(at - 1);
         };
-        expect_fault(rt, job, due, &ended, text);
-        assert_eq!(rt; ended.out.calls(), 0);
+        assert_eq!(rt; failed.object, object);
+        assert!(rt; are_last_calls(behind));
+        expect_fault(rt, job, due, &ended, object, at);
     }
-    Ok(())
+    Ok(MANY)
 }
 
-/// Fails each call on input.
-fn each_read_fails(rt: &impl Abort, alloc: Global, job: &Job<'_>, due: &Ended) -> Result<(), Fail> {
-    for at in 1..=due.input.calls() {
-        let ended = run_job(alloc, job, Failing { input: at, ..CALM })?;
-        expect_fault(rt, job, due, &ended, "sux: fault: input\n");
-        assert_eq!(rt; ended.input.calls(), at);
-        assert!(rt; dump_in(&ended.files) == job.dump);
-    }
-    Ok(())
-}
-
-/// Fails each call on out: what is due in files is there.
-fn each_write_fails(
+/// Fails each call on files, input, out and err of a run that ends with this status, of which there
+/// are so many, and gives the dump that it leaves.
+fn each_call_fails(
     rt: &impl Abort,
     alloc: Global,
     job: &Job<'_>,
-    due: &Ended,
-) -> Result<(), Fail> {
-    for at in 1..=due.out.calls() {
-        let ended = run_job(alloc, job, Failing { out: at, ..CALM })?;
-        expect_fault(rt, job, due, &ended, "sux: fault: output\n");
-        assert_eq!(rt; ended.out.calls(), at);
-        assert!(rt; dump_in(&ended.files) == dump_in(&due.files));
-    }
-    Ok(())
-}
-
-/// Runs a job once calmly and then with each call failing, and gives the dump that is left.
-pub(crate) fn each_call_fails(
-    rt: &impl Abort,
-    alloc: Global,
-    job: &Job<'_>,
-    calls: [u64; 3],
+    status: Status,
+    calls: [u64; 4],
 ) -> Result<Vec<u8>, Fail> {
-    let due = run_job(alloc, job, CALM)?;
-    assert_eq!(rt; due.status, Status::Done);
-    assert_eq!(rt; due.err.calls(), 0);
-    assert_eq!(rt;
-        [due.files.calls(), due.input.calls(), due.out.calls()],
-        calls
-    );
-    each_call_on_files_fails(rt, alloc, job, &due)?;
-    each_read_fails(rt, alloc, job, &due)?;
-    each_write_fails(rt, alloc, job, &due)?;
-    Ok(Vec::from_slice(alloc, dump_in(&due.files))?)
+    let due = job.run(alloc, Schedule::Calm)?;
+    assert_eq!(rt; due.status, status);
+    let tried = [
+        each_call_on(rt, alloc, job, &due, Object::Files)?,
+        each_call_on(rt, alloc, job, &due, Object::Input)?,
+        each_call_on(rt, alloc, job, &due, Object::Out)?,
+        each_call_on(rt, alloc, job, &due, Object::Err)?,
+    ];
+    assert_eq!(rt; tried, calls);
+    Ok(Vec::from_slice(alloc, due.dump())?)
+}
+
+const KEYS: &[u8] = b"a\nab\nb\nbc\nzebra\n";
+
+const LINES: &[u8] = b"zebra\nbc\nx\nb\n\nab\na";
+
+/// Fails each call of a run that reads this dump and is done.
+fn each_call_of_a_reader_fails(
+    rt: &impl Abort,
+    alloc: Global,
+    line: &str,
+    dump: &[u8],
+    calls: [u64; 4],
+) -> Result<(), Fail> {
+    let job = Job::plain(line, LINES, dump);
+    each_call_fails(rt, alloc, &job, Status::Done, calls)?;
+    Ok(())
+}
+
+/// Fails each call of a build of five keys, and of what reads its dump: the line and the text on it
+/// take so many writes.
+fn each_call_of_a_kind_fails(
+    rt: &impl Abort,
+    alloc: Global,
+    line: &str,
+    opened: u64,
+    shown: u64,
+) -> Result<(), Fail> {
+    let build = Job::plain(line, KEYS, b"old");
+    let dump = each_call_fails(rt, alloc, &build, Status::Done, [3, 7, 3, 0])?;
+    each_call_of_a_reader_fails(rt, alloc, "query D", &dump, [4, 7, 6, 0])?;
+    each_call_of_a_reader_fails(rt, alloc, "open D", &dump, [4, 0, opened, 0])?;
+    each_call_of_a_reader_fails(rt, alloc, "dump D", &dump, [4, 0, shown, 0])
 }
 
 #[test]
-fn each_call_of_build_and_its_readers_fails(rt: HostRuntime) -> Result<(), Fail> {
-    let build = Job::plain("build func D", b"a\nb\nbc\n", b"");
-    let dump = each_call_fails(&rt, rt.alloc(), &build, [3, 4, 3])?;
-    let over = Job {
-        dump: b"old",
-        ..build
-    };
-    each_call_fails(&rt, rt.alloc(), &over, [3, 4, 3])?;
-    for (line, input, calls) in [
-        ("query D", b"b\na\nbc\na".as_slice(), [4, 4, 4]),
-        ("open D", b"", [4, 0, 3]),
-        ("dump D", b"", [4, 0, 31]),
+fn each_call_of_each_kind_fails(rt: HostRuntime) -> Result<(), Fail> {
+    for (line, opened, shown) in [
+        ("build func D --signed 16", 3, 48),
+        ("build lcp D --log-bucket 1 --method gov3", 3, 52),
+        ("build lcp2 D --log-bucket 1", 3, 93),
+        ("build hollow D --signed 8", 3, 41),
+        ("build hollowdist D --log-bucket 0", 4, 78),
+        ("build zfast D --log-bucket 0", 3, 115),
     ] {
-        let job = Job::plain(line, input, &dump);
-        each_call_fails(&rt, rt.alloc(), &job, calls)?;
+        each_call_of_a_kind_fails(&rt, rt.alloc(), line, opened, shown)?;
     }
     Ok(())
 }
 
 #[test]
-fn each_call_of_a_hollow_trie_fails(rt: HostRuntime) -> Result<(), Fail> {
-    let build = Job::plain("build hollow D", b"a\nb\nc\n", b"");
-    let dump = each_call_fails(&rt, rt.alloc(), &build, [3, 3, 3])?;
-    for (line, input, calls) in [
-        ("query D", b"a\nb\nc\n".as_slice(), [4, 3, 2]),
-        ("open D", b"", [4, 0, 3]),
-        ("dump D", b"", [4, 0, 26]),
+fn each_call_of_a_trial_fails(rt: HostRuntime) -> Result<(), Fail> {
+    for (line, calls) in [
+        ("trial func 3", 6),
+        ("trial lcp 3", 6),
+        ("trial lcp2 3", 6),
+        ("trial hollow 3", 6),
+        ("trial hollowdist 3", 7),
+        ("trial zfast 3", 6),
     ] {
-        let job = Job::plain(line, input, &dump);
-        each_call_fails(&rt, rt.alloc(), &job, calls)?;
+        let job = Job::plain(line, KEYS, b"old");
+        each_call_fails(&rt, rt.alloc(), &job, Status::Done, [0, 0, calls, 0])?;
     }
     Ok(())
 }
 
 #[test]
-fn each_call_of_distributors_fails(rt: HostRuntime) -> Result<(), Fail> {
-    for (line, told) in [
-        ("build hollowdist D --log-bucket 0", 4),
-        ("build zfast D --log-bucket 0", 3),
+fn each_call_of_a_build_with_values_fails(rt: HostRuntime) -> Result<(), Fail> {
+    for (values, status, calls) in [
+        (b"10\n7\n12\n0\n7\n".as_slice(), Status::Done, [7, 7, 3, 0]),
+        (b"10\n7\n012\n", Status::BadInput, [3, 7, 0, 5]),
+        (b"10\n7\n", Status::BadInput, [4, 7, 0, 5]),
+        (b"", Status::BadInput, [1, 7, 0, 4]),
     ] {
-        let build = Job::plain(line, b"a\nb\nc\n", b"");
-        let dump = each_call_fails(&rt, rt.alloc(), &build, [3, 3, 3])?;
-        let query = Job::plain("query D", b"a\nb\nc\n", &dump);
-        each_call_fails(&rt, rt.alloc(), &query, [4, 3, 2])?;
-        let open = Job::plain("open D", b"", &dump);
-        each_call_fails(&rt, rt.alloc(), &open, [4, 0, told])?;
+        let job = Job {
+            values,
+            ..Job::plain("build func D --values V", KEYS, b"")
+        };
+        each_call_fails(&rt, rt.alloc(), &job, status, calls)?;
     }
     Ok(())
 }
 
 #[test]
-fn each_call_of_build_with_values_fails(rt: HostRuntime) -> Result<(), Fail> {
+fn each_call_of_a_refused_run_fails(rt: HostRuntime) -> Result<(), Fail> {
+    let two_seeds = "build func D --seeds 7,8 --sig-bits 0";
+    for (line, input, dump, status, calls) in [
+        ("frob", KEYS, b"old".as_slice(), Status::Usage, [0, 0, 0, 4]),
+        ("trial tree 3", KEYS, b"old", Status::Usage, [0, 0, 0, 4]),
+        (
+            "build func D",
+            b"b\na\nc\n",
+            b"",
+            Status::BadInput,
+            [0, 2, 0, 5],
+        ),
+        (two_seeds, KEYS, b"old", Status::SeedsFailed, [0, 7, 0, 19]),
+        ("query D", LINES, b"", Status::BadDump, [1, 0, 0, 3]),
+        ("open D", LINES, b"old", Status::BadDump, [4, 0, 0, 3]),
+        ("dump D", LINES, b"old", Status::BadDump, [4, 0, 0, 3]),
+    ] {
+        let job = Job::plain(line, input, dump);
+        each_call_fails(&rt, rt.alloc(), &job, status, calls)?;
+    }
+    Ok(())
+}
+
+/// So many lines with a number of four digits behind the same bytes.
+fn numbered(alloc: Global, front: &[u8], count: u16) -> Result<Vec<u8>, AllocError> {
+    let mut lines = Vec::new(alloc);
+    for i in 0..count {
+        lines.extend_from_slice(front)?;
+        for power in [1000, 100, 10, 1] {
+            lines.push((i / power % 10 + 48) as u8)?;
+        }
+        lines.push(b'\n')?;
+    }
+    Ok(lines)
+}
+
+/// A dump of more than 8,192 bytes, which are written in two pieces.
+#[test]
+fn each_call_of_a_long_build_fails(rt: HostRuntime) -> Result<(), Fail> {
+    let alloc = rt.alloc();
+    let keys = numbered(alloc, b"", 900)?;
+    let values = numbered(alloc, b"1000000000000000", 900)?;
     let job = Job {
-        line: "build func D --values V",
-        input: b"a\nb\nbc\n",
-        dump: b"",
-        values: b"10\n7\n12\n",
-        values_calls: 4,
+        piece: 4000,
+        values: &values,
+        ..Job::plain("build func D --values V", &keys, b"old")
     };
-    each_call_fails(&rt, rt.alloc(), &job, [7, 4, 3])?;
+    each_call_fails(&rt, alloc, &job, Status::Done, [8, 3, 4, 0])?;
+    Ok(())
+}
+
+/// A line that is too long, behind two that are answered.
+#[test]
+fn each_call_of_a_refused_query_fails(rt: HostRuntime) -> Result<(), Fail> {
+    let alloc = rt.alloc();
+    let mut input = Vec::from_slice(alloc, b"a\nx\n")?;
+    input.extend_from_slice(&[b'x'; 8192])?;
+    let build = Job::plain("build func D", KEYS, b"");
+    let built = build.run(alloc, Schedule::Calm)?;
+    let job = Job {
+        piece: 1500,
+        ..Job::plain("query D", &input, built.dump())
+    };
+    each_call_fails(&rt, alloc, &job, Status::BadInput, [4, 6, 1, 6])?;
+    Ok(())
+}
+
+#[test]
+fn nothing_is_read_behind_a_refusal(rt: HostRuntime) -> Result<(), Fail> {
+    let alloc = rt.alloc();
+    let built = Job::plain("build func D", b"a\n", b"").run(alloc, Schedule::Calm)?;
+    let long = [b'x'; 9000];
+    for (line, input, piece, calls) in [
+        ("build func D", b"b\na\nc\n".as_slice(), 2, 2),
+        ("build func D", b"b\nb\nc\n", 1, 4),
+        ("build func D", b"\0\nb\n", 1, 2),
+        ("build func D", &long, 1000, 9),
+        ("query D", &long, 1000, 9),
+    ] {
+        let job = Job {
+            piece,
+            ..Job::plain(line, input, built.dump())
+        };
+        let ended = job.run(alloc, Schedule::Calm)?;
+        assert_eq!(rt; ended.status, Status::BadInput);
+        assert_eq!(rt; ended.input.calls(), calls);
+    }
     Ok(())
 }
 
@@ -257,89 +322,10 @@ fn a_full_shelf_keeps_a_part(rt: HostRuntime) -> Result<(), Fail> {
     files.room("D", 20)?;
     let status = run_once(alloc, &words, &mut files, &mut input, &mut out, &mut err);
     assert_eq!(rt; status, Status::Fault);
-    assert_eq!(rt; dump_in(&files).len(), 20);
-    assert!(rt; dump_in(&files).starts_with(b"SUXDUMP1"));
+    let part = files.bytes("D").unwrap_or(b"");
+    assert_eq!(rt; part.len(), 20);
+    assert!(rt; part.starts_with(b"SUXDUMP1"));
     assert_eq!(rt; out.calls(), 0);
     assert_eq!(rt; err.bytes(), b"sux: fault: dump\n".as_slice());
-    Ok(())
-}
-
-/// Fails each call on err in a run that ends with a message, whose writes take 8 bytes each.
-pub(crate) fn each_message_fails(
-    rt: &impl Abort,
-    alloc: Global,
-    job: &Job<'_>,
-) -> Result<(), Fail> {
-    let due = run_job(alloc, job, CALM)?;
-    assert!(rt; due.err.calls() > 0);
-    for at in 1..=due.err.calls() {
-        let ended = run_job(alloc, job, Failing { err: at, ..CALM })?;
-        assert_eq!(rt; ended.status, Status::Fault);
-        let note = b"sux: fault: error\n";
-        assert!(rt; ended.err.bytes().ends_with(note));
-        let told = &ended.err.bytes()[..ended.err.bytes().len() - note.len()];
-        assert!(rt; due.err.bytes().starts_with(told));
-        assert_eq!(rt; told.len() % 8, 0);
-        assert_eq!(rt; (told.len() / 8) as u64, at - 1);
-        assert!(rt; dump_in(&ended.files) == job.dump);
-        assert_eq!(rt; ended.out.calls(), due.out.calls());
-    }
-    Ok(())
-}
-
-#[test]
-fn each_message_may_fail(rt: HostRuntime) -> Result<(), Fail> {
-    for (line, input, dump) in [
-        ("frob", b"".as_slice(), b"".as_slice()),
-        ("build func D", b"b\na\n", b""),
-        ("build func D --values V", b"a\n", b"old"),
-        ("build func D --seeds 7 --sig-bits 0", b"a\nb\n", b"old"),
-        ("query D", b"a\n", b""),
-        ("open D", b"", b"old"),
-        ("dump D", b"", b"old"),
-    ] {
-        let job = Job::plain(line, input, dump);
-        each_message_fails(&rt, rt.alloc(), &job)?;
-    }
-    Ok(())
-}
-
-/// Runs the words over input that would fail at the call behind so many, and isn't asked there.
-fn stops_reading(
-    rt: &impl Abort,
-    alloc: Global,
-    job: &Job<'_>,
-    piece: usize,
-    calls: u64,
-) -> Result<(), Fail>
-    requires piece { 1 ≤ piece }
-    requires calls { calls < 100 }
-{
-    let words = words_of(alloc, job.line)?;
-    let mut files = shelf_for(alloc, job, 0)?;
-    let bytes = Vec::from_slice(alloc, job.input)?;
-    let mut input = MemSource::new(bytes, piece, Vec::from_slice(alloc, &[calls + 1])?);
-    let mut out = MemSink::new(alloc, 1000, 8, Vec::new(alloc))?;
-    let mut err = MemSink::new(alloc, 1000, 8, Vec::new(alloc))?;
-    let status = run_once(alloc, &words, &mut files, &mut input, &mut out, &mut err);
-    assert_eq!(rt; status, Status::BadInput);
-    assert_eq!(rt; input.calls(), calls);
-    Ok(())
-}
-
-#[test]
-fn nothing_is_read_behind_a_refusal(rt: HostRuntime) -> Result<(), Fail> {
-    let due = run_job(rt.alloc(), &Job::plain("build func D", b"a\n", b""), CALM)?;
-    let long = [b'x'; 9000];
-    for (line, input, piece, calls) in [
-        ("build func D", b"b\na\nc\n".as_slice(), 2, 2),
-        ("build func D", b"b\nb\nc\n", 1, 4),
-        ("build func D", b"\0\nb\n", 1, 2),
-        ("build func D", &long, 1000, 9),
-        ("query D", &long, 1000, 9),
-    ] {
-        let job = Job::plain(line, input, dump_in(&due.files));
-        stops_reading(&rt, rt.alloc(), &job, piece, calls)?;
-    }
     Ok(())
 }

@@ -5,6 +5,8 @@
 #[cfg(test)]
 mod failing_tests;
 #[cfg(test)]
+mod faults;
+#[cfg(test)]
 mod ranks_tests;
 #[cfg(test)]
 mod tests;
@@ -12,5 +14,7 @@ mod tests;
 mod trial_tests;
 #[cfg(test)]
 mod waiting_tests;
+#[cfg(test)]
+mod watched;
 #[cfg(test)]
 mod zfast_tests;

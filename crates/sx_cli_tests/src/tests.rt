@@ -20,36 +20,36 @@ use sx_memory::source::MemSource;
 use sx_spec::Status;
 use sx_steps::Steps;
 
-fn run_counted<L: Ledger, S: Source, O: Sink>(
+fn run_counted<L: Ledger, F: Shelf, S: Source, O: Sink, E: Sink>(
     alloc: Global,
     words: &WordList,
-    files: &mut MemShelf,
+    files: &mut F,
     input: &mut S,
     out: &mut O,
-    err: &mut MemSink,
+    err: &mut E,
     blank: Blank,
 ) -> Status
     requires blank { IsBlankOf L.Ledger blank }
-    requires idle { use_of files.old.used ≡ idle }
-    ensures closed { use_of files.new.used ≡ idle }
+    requires idle { F.in_use files.old ≡ idle }
+    ensures closed { F.in_use files.new ≡ idle }
 {
     let mut steps = Steps::<L>::new(blank);
     run(alloc, words, files, input, out, err, &mut steps)
 }
 
 /// Runs the words over these objects.
-pub(crate) fn run_once<S: Source, O: Sink>(
+pub(crate) fn run_once<F: Shelf, S: Source, O: Sink, E: Sink>(
     alloc: Global,
     words: &WordList,
-    files: &mut MemShelf,
+    files: &mut F,
     input: &mut S,
     out: &mut O,
-    err: &mut MemSink,
+    err: &mut E,
 ) -> Status
-    requires idle { use_of files.old.used ≡ idle }
-    ensures closed { use_of files.new.used ≡ idle }
+    requires idle { F.in_use files.old ≡ idle }
+    ensures closed { F.in_use files.new ≡ idle }
 {
-    run_counted::<Brand, S, O>(alloc, words, files, input, out, err, Blank::new(1))
+    run_counted::<Brand, F, S, O, E>(alloc, words, files, input, out, err, Blank::new(1))
 }
 
 /// The words of a command line, which stand between spaces.

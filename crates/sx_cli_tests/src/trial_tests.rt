@@ -1,6 +1,5 @@
 //! Whole runs of the command `trial`, which calls neither files nor input.
 
-use crate::failing_tests::{Job, each_call_fails, each_message_fails};
 use crate::tests::{comes_to, refuses, run_once, shelf_with_room, words_of};
 use std::alloc::Global;
 use std::process::Abort;
@@ -92,14 +91,6 @@ fn rules_of_usage_are_told(rt: HostRuntime) -> Result<(), Fail> {
 fn files_and_input_are_not_called(rt: HostRuntime) -> Result<(), Fail> {
     let line = "trial hollow 3";
     ends_with(&rt, rt.alloc(), line, [100, 100], Status::Done, [LINE, ""])
-}
-
-#[test]
-fn each_call_fails_once(rt: HostRuntime) -> Result<(), Fail> {
-    let job = Job::plain("trial hollow 3", b"a\n", b"old");
-    each_call_fails(&rt, rt.alloc(), &job, [0, 0, 6])?;
-    let job = Job::plain("trial tree 3", b"a\n", b"old");
-    each_message_fails(&rt, rt.alloc(), &job)
 }
 
 #[test]

@@ -12,7 +12,7 @@ use sx_memory::source::MemSource;
 use sx_spec::Status;
 
 /// How many line feeds stand in the bytes.
-fn feeds_in(bytes: &[u8]) -> usize {
+pub(crate) fn feeds_in(bytes: &[u8]) -> usize {
     bytes.iter().filter(|b| **b == b'\n').count()
 }
 
