@@ -1,9 +1,10 @@
 -- What answers for a dump, by its kind.
-use Rattle.std.specs.Prelude.{◌≡◌, ◌≢◌, ℕ, ◌+◌, List, length, Option, Some, None, drop}
+use Rattle.std.specs.Prelude.{◌≡◌, ◌≢◌, ℕ, ◌+◌, Bool, true, false, List, length, Option, Some, None, drop}
 use Rattle.sx_ef.specs.Parts.{sums_of}
 use Rattle.sx_ef.specs.declared.view.EliasFano.{EliasFano}
 use Rattle.sx_fields.specs.declared.bank.WordBank.{Ghosts}
 use Rattle.sx_fields.specs.declared.packed.Packed.{Packed}
+use Rattle.sx_spec_kinds.specs.declared.Kind.{Kind}
 use Rattle.sx_spec_kinds.specs.declared.Kind.TheVariants.{Func as FuncKind, Lcp as LcpKind, Lcp2 as Lcp2Kind, Hollow as HollowKind, HollowDist as HollowDistKind, Zfast as ZfastKind}
 use Rattle.sx_hollow.specs.declared.view.HollowView.{HollowView}
 use Rattle.sx_lcp.specs.declared.lcp.LcpView.{LcpView}
@@ -130,3 +131,12 @@ pub record IsViewOf {B : Type 0} {bank_of : Ghosts B} (words : List ℕ) (view :
   pub hollow : (hollow : HollowView B bank_of) → view ≡ Hollow hollow → IsHollowView words hollow
   pub hollow_dist : (dist : HollowDistributor B bank_of) → view ≡ HollowDist dist → IsHollowDistView words dist
   pub zfast : (dist : ZfastDistributor B bank_of) → view ≡ Zfast dist → IsZfastView words dist
+
+-- whether what answers for a dump of the kind holds directories in memory
+abbrev pub holds_directories : Kind → Bool
+holds_directories FuncKind = false
+holds_directories LcpKind = false
+holds_directories Lcp2Kind = false
+holds_directories HollowKind = true
+holds_directories HollowDistKind = true
+holds_directories ZfastKind = false

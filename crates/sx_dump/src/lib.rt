@@ -1,6 +1,7 @@
 //! Dumps in banks of words: opened, asked, and shown as text.
 #![tactic(auto)]
 
+mod bare;
 mod dump;
 mod hollow_dist;
 mod open;
@@ -8,6 +9,7 @@ mod show;
 mod view;
 mod zfast;
 
+pub use bare::holds_directories;
 pub use dump::Dump;
 pub use open::{OpenFault, open_dump};
 pub use sx_sections::fault::MAX_BYTES;

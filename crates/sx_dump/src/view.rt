@@ -4,6 +4,7 @@ ghost use Rattle.std.specs.Prelude.{◌≡◌, ◌+◌, IfOk};
 ghost use Rattle.sx_dump.specs.Opening.{AreBeside, IsCorrectionsAt, IsFunctionAt, IsListAt, IsOpened, IsSumsAt};
 ghost use Rattle.sx_dump.specs.Viewing.{IsHollowDistView, IsHollowView, IsKeptView, IsLcp2View, IsLcpView, IsViewOf, IsZfastView, ReadsCorrections, ReadsFunction, ReadsNumbers, ReadsSums};
 
+use crate::bare::bare_view_of;
 use crate::hollow_dist::HollowDistributor;
 use crate::zfast::ZfastDistributor;
 use std::alloc::{AllocError, Global};
@@ -39,7 +40,7 @@ pub enum View<B: WordBank + Copy> {
 }
 
 /// The function of section `i` of the dump in a bank of words that were opened.
-fn function_at<B: WordBank + Copy>(bank: B, opened: &Opened, i: usize) -> FuncView<B>
+pub(crate) fn function_at<B: WordBank + Copy>(bank: B, opened: &Opened, i: usize) -> FuncView<B>
     requires opened { IsOpened (B.words_of bank) opened.now.header opened.now.places.items }
     requires function { IsFunctionAt opened.now.places.items i }
     ensures { ReadsFunction (B.words_of bank) i result }
@@ -100,7 +101,7 @@ fn sums_at<B: WordBank + Copy>(
 }
 
 /// The distributor of the dump of kind `lcp` in a bank of words that were opened.
-fn lcp_view<B: WordBank + Copy>(bank: B, opened: &Opened) -> LcpView<B>
+pub(crate) fn lcp_view<B: WordBank + Copy>(bank: B, opened: &Opened) -> LcpView<B>
     requires opened { IsOpened (B.words_of bank) opened.now.header opened.now.places.items }
     requires kind { opened.now.header.plan.kind ≡ Kind.Lcp }
     ensures { IsLcpView (B.words_of bank) result }
@@ -112,7 +113,7 @@ fn lcp_view<B: WordBank + Copy>(bank: B, opened: &Opened) -> LcpView<B>
 }
 
 /// The distributor of the dump of kind `lcp2` in a bank of words that were opened.
-fn lcp2_view<B: WordBank + Copy>(bank: B, opened: &Opened) -> Lcp2View<B>
+pub(crate) fn lcp2_view<B: WordBank + Copy>(bank: B, opened: &Opened) -> Lcp2View<B>
     requires opened { IsOpened (B.words_of bank) opened.now.header opened.now.places.items }
     requires kind { opened.now.header.plan.kind ≡ Kind.Lcp2 }
     ensures { IsLcp2View (B.words_of bank) result }
@@ -199,7 +200,7 @@ fn corrections_at<B: WordBank + Copy>(
 }
 
 /// The distributor of the dump of kind `zfast` in a bank of words that were opened.
-fn zfast_view<B: WordBank + Copy>(bank: B, opened: &Opened) -> ZfastDistributor<B>
+pub(crate) fn zfast_view<B: WordBank + Copy>(bank: B, opened: &Opened) -> ZfastDistributor<B>
     requires opened { IsOpened (B.words_of bank) opened.now.header opened.now.places.items }
     requires kind { opened.now.header.plan.kind ≡ Kind.Zfast }
     ensures { IsZfastView (B.words_of bank) result }
@@ -242,12 +243,12 @@ pub fn view_of<B: WordBank + Copy>(
     requires { IsOpened (B.words_of bank) opened.now.header opened.now.places.items }
     ensures { IfOk result (IsViewOf (B.words_of bank)) }
 {
-    match opened.header.plan.kind {
-        Kind::Func => Ok(View::Func(function_at(bank, opened, 0))),
-        Kind::Lcp => Ok(View::Lcp(lcp_view(bank, opened))),
-        Kind::Lcp2 => Ok(View::Lcp2(lcp2_view(bank, opened))),
-        Kind::Hollow => Ok(View::Hollow(hollow_view(alloc, bank, opened)?)),
-        Kind::HollowDist => Ok(View::HollowDist(hollow_dist_view(alloc, bank, opened)?)),
-        Kind::Zfast => Ok(View::Zfast(zfast_view(bank, opened))),
+    match bare_view_of(bank, opened) {
+        Some(view) => Ok(view),
+        None => match opened.header.plan.kind {
+            Kind::Hollow => Ok(View::Hollow(hollow_view(alloc, bank, opened)?)),
+            Kind::HollowDist => Ok(View::HollowDist(hollow_dist_view(alloc, bank, opened)?)),
+            Kind::Func | Kind::Lcp | Kind::Lcp2 | Kind::Zfast => unreachable!(),
+        },
     }
 }
