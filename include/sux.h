@@ -1,7 +1,8 @@
-/* Dumps of `sux`, opened where their words lie in memory, and asked.
+/* Dumps of `sux`, built from keys in memory, opened where their words lie, and asked.
  *
- * Nothing is kept between calls, and no call takes memory: the words of a dump, its handle and the
- * lines are the caller's, and there is nothing to free. Threads may share one open handle to ask.
+ * Nothing is kept between calls: the words of a dump, its handle and the lines are the caller's, and
+ * there is nothing to free. Only sux_build takes memory, from malloc, and it gives all of it back.
+ * Threads may share one open handle to ask.
  *
  * What a caller owes, and no proof covers:
  * - A pointer and a count name that many elements that may be read (or written, where the pointer is
@@ -29,11 +30,16 @@ extern "C" {
 /* what a call comes to */
 enum sux_status {
     SUX_DONE = 0,
-    SUX_TOO_LONG = 1,  /* the line is longer than 8,191 bytes */
-    SUX_BAD_COUNT = 2, /* not as many words as the bytes fill, or places as there are lines */
-    SUX_NO_NUMBER = 3, /* the dump knows no number for the line */
-    SUX_NO_DUMP = 4,   /* a check of the words fails, or the handle isn't open */
-    SUX_NOT_SERVED = 5 /* a dump of kind hollow or hollowdist, which isn't asked in process */
+    SUX_TOO_LONG = 1,   /* the line is longer than 8,191 bytes */
+    SUX_BAD_COUNT = 2,  /* not as many words, places, values or seeds as there have to be */
+    SUX_NO_NUMBER = 3,  /* the dump knows no number for the line */
+    SUX_NO_DUMP = 4,    /* a check of the words fails, or the handle isn't open */
+    SUX_NOT_SERVED = 5, /* a dump of kind hollow or hollowdist, which isn't asked in process */
+    SUX_BAD_KEY = 6,    /* a key breaks a rule */
+    SUX_BAD_PLAN = 7,   /* no such kind or method, or an option out of its range or not the kind's */
+    SUX_NO_SEED = 8,    /* no seed works */
+    SUX_NO_ROOM = 9,    /* the dump has more words than there is room for */
+    SUX_NO_MEMORY = 10  /* sux_build finds no memory */
 };
 
 /* the code of a dump's kind */
@@ -94,6 +100,41 @@ typedef struct sux_line {
     size_t size;
 } sux_line;
 
+/* ---- a build */
+
+/* What is built. The options are those of `sux build`; one that doesn't go with the kind is 0. */
+typedef struct sux_plan {
+    uint32_t log_bucket;  /* of lcp, lcp2, hollowdist and zfast: blocks of 2 to the power of it, 0 to 12 */
+    uint32_t sig_bits;    /* how many bits of a signature are kept, 0 to 192; 192 in most cases */
+    uint32_t handle_bits; /* of zfast: how many bits are kept of each handle's signature, 0 to 64 */
+    uint32_t signed_bits; /* how many bits are kept of each key's signature, 0 to 64 */
+    uint8_t kind;         /* a sux_kind_code */
+    uint8_t method;       /* 0: peeling; 1: linear systems. Of hollow 0 */
+} sux_plan;
+
+/* Why a seed doesn't work: its first part that can't be built, counted from 0 in the order of README.md */
+typedef struct sux_failure {
+    uint32_t part;
+    uint32_t cause;  /* 1: two strings of the part have one signature; 2: no try works for a chunk */
+    uint32_t first;  /* the first of the two strings, or the chunk */
+    uint32_t second; /* the second of the two strings, else 0 */
+} sux_failure;
+
+typedef struct sux_failures {
+    size_t count;
+    sux_failure list[16]; /* the first `count`, of seeds in their order */
+} sux_failures;
+
+/* What a build tells; what a status doesn't speak of is left as it was */
+typedef struct sux_told {
+    uint64_t words;  /* how many words the dump has */
+    uint64_t seed;   /* the seed that it is built with */
+    uint64_t number; /* the key that is refused, counted from 0 */
+    uint32_t rule;   /* 1: longer than 8,191 bytes; 2: holds a zero byte; 3: equal to the key before it;
+                        4: below it; 5: one of more than 4,194,304 keys; 6: of more than 268,435,456 bytes */
+    sux_failures failures; /* of the seeds that don't work, before the one that does */
+} sux_told;
+
 /* ---- calls */
 
 /* Opens the dump that a file of so many bytes is; `words` are those bytes, eight a word, and the last
@@ -130,6 +171,22 @@ uint64_t sux_keys(const sux_dump *dump);
 /* How many words of eight bytes an open dump has, else 0. */
 uint64_t sux_words(const sux_dump *dump);
 
+/* Builds the dump of the keys, which rise in byte order, by the first of 1 to 16 seeds that works, and
+ * puts its words at the front of `out`; they are what `sux build` writes. Kind func gives each key its
+ * value where there are as many values as keys, without signed_bits; no values (`value_count` 0) are
+ * the keys' numbers.
+ *
+ * SUX_DONE: the first told->words words of `out` are the dump's; the others are as they were.
+ * SUX_NO_ROOM: the dump has told->words words, more than `out_count`.
+ * SUX_NO_SEED: told->failures says of each seed why.
+ * SUX_BAD_KEY: key told->number is the first that breaks a rule, told->rule.
+ * SUX_BAD_COUNT: not 1 to 16 seeds, or values that aren't as many as keys or that the plan doesn't
+ * take. SUX_BAD_PLAN, SUX_NO_MEMORY.
+ * With any status but SUX_DONE `out` is as it was. */
+uint8_t sux_build(const sux_line *keys, size_t key_count, const uint64_t *values, size_t value_count,
+                  const sux_plan *plan, const uint64_t *seeds, size_t seed_count, uint64_t *out,
+                  size_t out_count, sux_told *told);
+
 /* ---- the layouts that the library was built with */
 
 #ifdef __cplusplus
@@ -148,6 +205,11 @@ SUX_LAYOUT("sux_found", sizeof(sux_found) == 480 && offsetof(sux_found, count) =
 SUX_LAYOUT("sux_dump", sizeof(sux_dump) == 504 && offsetof(sux_dump, word_count) == 8
                            && offsetof(sux_dump, found) == 16 && offsetof(sux_dump, opened) == 496);
 SUX_LAYOUT("sux_line", sizeof(sux_line) == 16 && offsetof(sux_line, size) == 8);
+SUX_LAYOUT("sux_plan", sizeof(sux_plan) == 20 && offsetof(sux_plan, kind) == 16
+                           && offsetof(sux_plan, method) == 17);
+SUX_LAYOUT("sux_failures", sizeof(sux_failures) == 264 && offsetof(sux_failures, list) == 8);
+SUX_LAYOUT("sux_told", sizeof(sux_told) == 296 && offsetof(sux_told, rule) == 24
+                           && offsetof(sux_told, failures) == 32);
 #undef SUX_LAYOUT
 
 #ifdef __cplusplus

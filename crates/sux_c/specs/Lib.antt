@@ -1,6 +1,10 @@
 pub mod Answers
+pub mod Building
 pub mod Found
 pub mod Handles
 pub mod Headers
+pub mod KeyFaults
 pub mod Places
+pub mod Plans
+pub mod Told
 pub mod Verdicts

@@ -49,7 +49,7 @@ fn method_code(method: Method) -> u8
 }
 
 /// The kind of a code.
-fn kind_of(code: u8) -> Kind
+pub fn kind_of(code: u8) -> Kind
     ensures { result ≡ unwrap_or (slice_get layout.kinds code) Func }
 {
     match code {
@@ -63,7 +63,7 @@ fn kind_of(code: u8) -> Kind
 }
 
 /// The method of a code.
-fn method_of(code: u8) -> Method
+pub fn method_of(code: u8) -> Method
     ensures { result ≡ unwrap_or (slice_get layout.methods code) Mwhc }
 {
     match code {

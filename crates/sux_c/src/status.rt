@@ -6,7 +6,7 @@ pub const DONE: u8 = 0;
 /// The line is longer than 8,191 bytes.
 pub const TOO_LONG: u8 = 1;
 
-/// There are not as many words, or places for replies, as there have to be.
+/// There are not as many words, places for replies, values or seeds as there have to be.
 pub const BAD_COUNT: u8 = 2;
 
 /// The dump knows no number for the line.
@@ -17,6 +17,21 @@ pub const NO_DUMP: u8 = 4;
 
 /// The words are a dump of a kind that isn't asked in process.
 pub const NOT_SERVED: u8 = 5;
+
+/// A key breaks a rule.
+pub const BAD_KEY: u8 = 6;
+
+/// What is asked for is no plan of a build.
+pub const BAD_PLAN: u8 = 7;
+
+/// No seed works.
+pub const NO_SEED: u8 = 8;
+
+/// There are fewer words of room than the dump takes.
+pub const NO_ROOM: u8 = 9;
+
+/// Memory is wanting.
+pub const NO_MEMORY: u8 = 10;
 
 /// The kind that a handle tells which isn't open.
 pub const NO_KIND: u8 = 255;

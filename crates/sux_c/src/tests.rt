@@ -1,11 +1,15 @@
 //! The calls as C makes them, over dumps of which the numbers were computed elsewhere.
 
 use crate::asking::{sux_keys, sux_kind, sux_replies, sux_reply, sux_words};
+use crate::building::sux_build;
 use crate::found::SuxFound;
 use crate::handle::SuxDump;
 use crate::header::SuxHeader;
 use crate::opening::sux_open;
 use crate::place::SuxPlace;
+use crate::plan::SuxPlan;
+use crate::told::{SuxFailures, SuxTold};
+use std::alloc::Global;
 use std::test::Fail;
 
 /// The dump of kind `lcp` of the keys a, b, c and d, in blocks of two.
@@ -24,12 +28,12 @@ const LETTERS: [u64; 20] = [
     4,
     0,
     9,
-    0x1600_00DC,
+    0xC_DA10_0000,
     1,
     2,
     0,
     6,
-    2,
+    16,
 ];
 
 /// The words of `LETTERS` without the last.
@@ -48,7 +52,7 @@ const CUT: [u64; 19] = [
     4,
     0,
     9,
-    0x1600_00DC,
+    0xC_DA10_0000,
     1,
     2,
     0,
@@ -181,5 +185,94 @@ fn a_hollow_trie_is_checked_and_not_served(rt: HostRuntime) -> Result<(), Fail> 
     let mut dump = letters();
     assert_eq!(rt; opening(&HOLLOW, 136, &mut dump), (5, 0));
     assert_eq!(rt; asked(&dump, b"a"), (4, 9));
+    Ok(())
+}
+
+/// What is asked for the dump of the letters.
+const ASKED: SuxPlan = SuxPlan {
+    log_bucket: 1,
+    sig_bits: 192,
+    handle_bits: 0,
+    signed_bits: 0,
+    kind: 1,
+    method: 0,
+};
+
+/// Of no build.
+fn untold() -> SuxTold {
+    SuxTold {
+        words: 0,
+        seed: 9,
+        number: 9,
+        rule: 9,
+        failures: SuxFailures::none(),
+    }
+}
+
+/// What a build of these keys into this room by the seeds 0 and 1 comes to.
+fn building(
+    alloc: Global,
+    keys: &[&[u8]],
+    plan: &SuxPlan,
+    out: &mut [u64],
+    told: &mut SuxTold,
+) -> u8 {
+    sux_build(alloc, keys, &[], plan, &[0, 1], out, told)
+}
+
+#[test]
+fn a_dump_is_built(rt: HostRuntime) -> Result<(), Fail> {
+    let keys: [&[u8]; 4] = [b"a", b"b", b"c", b"d"];
+    let mut out = [9; 20];
+    let mut told = untold();
+    assert_eq!(rt;
+        building(rt.alloc(), &keys, &ASKED, &mut out[..19], &mut told),
+        9
+    );
+    assert_eq!(rt; (told.words, out[0], out[18]), (20, 9, 9));
+    assert_eq!(rt; building(rt.alloc(), &keys, &ASKED, &mut out, &mut told), 0);
+    assert_eq!(rt; (told.words, told.seed, told.failures.count), (20, 0, 0));
+    assert_eq!(rt; out, LETTERS);
+    Ok(())
+}
+
+#[test]
+fn the_first_bad_key_is_told(rt: HostRuntime) -> Result<(), Fail> {
+    let keys: [&[u8]; 3] = [b"b", b"a", b"a"];
+    let mut out = [9; 1];
+    let mut told = untold();
+    assert_eq!(rt; building(rt.alloc(), &keys, &ASKED, &mut out, &mut told), 6);
+    assert_eq!(rt; (told.number, told.rule, out[0]), (1, 4, 9));
+    Ok(())
+}
+
+#[test]
+fn seeds_that_fail_are_told(rt: HostRuntime) -> Result<(), Fail> {
+    let keys: [&[u8]; 2] = [b"a", b"b"];
+    let mut plan = ASKED;
+    plan.sig_bits = 0;
+    let mut told = untold();
+    assert_eq!(rt; building(rt.alloc(), &keys, &plan, &mut [], &mut told), 8);
+    let last = told.failures.list[1];
+    assert_eq!(rt; (told.failures.count, last.part, last.cause), (2, 0, 1));
+    assert_eq!(rt; (last.first, last.second), (0, 1));
+    Ok(())
+}
+
+#[test]
+fn what_is_asked_is_checked(rt: HostRuntime) -> Result<(), Fail> {
+    let mut told = untold();
+    let mut plan = ASKED;
+    let status = sux_build(rt.alloc(), &[], &[1], &plan, &[0], &mut [], &mut told);
+    assert_eq!(rt; status, 2);
+    assert_eq!(rt;
+        sux_build(rt.alloc(), &[], &[], &plan, &[], &mut [], &mut told),
+        2
+    );
+    plan.handle_bits = 32;
+    assert_eq!(rt; building(rt.alloc(), &[], &plan, &mut [], &mut told), 7);
+    plan.handle_bits = 0;
+    plan.kind = 6;
+    assert_eq!(rt; building(rt.alloc(), &[], &plan, &mut [], &mut told), 7);
     Ok(())
 }
