@@ -75,10 +75,7 @@ fn values_for<F: Shelf>(
 {
     match &task.values {
         Some(name) => read_values(alloc, files, name.as_str(), keys),
-        None => match ranks(alloc, keys) {
-            Ok(values) => Ok(values),
-            Err(_) => Err(ValuesStop::Memory),
-        },
+        None => Ok(ranks(alloc, keys)?),
     }
 }
 

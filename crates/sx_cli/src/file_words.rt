@@ -27,6 +27,17 @@ pub enum ReadFault {
     Memory,
 }
 
+impl From<Failed> for ReadFault {
+    ghost use Rattle.std.specs.Prelude.{◌≡◌};
+    ghost use Rattle.sx_cli.specs.declared.file_words.ReadFault.TheVariants.{Failed as HasFailed};
+
+    ghost from_gives = { λ _ e. e ≡ HasFailed };
+
+    fn from(_: Failed) -> ReadFault {
+        ReadFault::Failed
+    }
+}
+
 impl From<AllocError> for ReadFault {
     ghost use Rattle.std.specs.Prelude.{◌≡◌};
     ghost use Rattle.sx_cli.specs.declared.file_words.ReadFault.TheVariants.{Memory};
@@ -61,13 +72,9 @@ fn read_piece<F: Shelf>(
         → Rose (F.faults files.old) (F.faults files.new) }
     ensures counts { StaysUnless (file_failed result) (F.faults files.old) (F.faults files.new) }
 {
-    match fill_buffer(files, piece) {
-        Ok(count) => {
-            push_words(words, &piece[..count])?;
-            Ok(count)
-        }
-        Err(Failed) => Err(ReadFault::Failed),
-    }
+    let count = fill_buffer(files, piece)?;
+    push_words(words, &piece[..count])?;
+    Ok(count)
 }
 
 /// Reads the words of the file being read, of at most one byte more than a dump may have. Beside

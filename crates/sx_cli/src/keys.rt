@@ -4,7 +4,7 @@ ghost use Rattle.sx_spec.specs.Causes.{StaysUnless};
 ghost use Rattle.sx_spec.specs.Keys.{refusal};
 ghost use Rattle.sx_cli.specs.KeyReading.{keys_failed, ReadsKeys, StopsKeys, StopsPush, StopsFault};
 
-use std::alloc::Global;
+use std::alloc::{AllocError, Global};
 use sx_bits::{KeyFault, KeyList, Limits};
 use sx_edge::line::{LineFault, LineReader, Step};
 use sx_edge::source::Source;
@@ -22,6 +22,17 @@ pub enum KeysStop {
     Failed,
     /// Memory is wanting.
     Memory,
+}
+
+impl From<AllocError> for KeysStop {
+    ghost use Rattle.std.specs.Prelude.{◌≡◌};
+    ghost use Rattle.sx_cli.specs.declared.keys.KeysStop.TheVariants.{Memory};
+
+    ghost from_gives = { λ _ e. e ≡ Memory };
+
+    fn from(_: AllocError) -> KeysStop {
+        KeysStop::Memory
+    }
 }
 
 /// What a key list's refusal of a line comes to.
@@ -59,10 +70,7 @@ pub fn read_keys<S: Source>(alloc: Global, input: &mut S) -> Result<KeyList, Key
         (StopsKeys (S.left input.old) (S.left input.new) (S.faults input.old) (S.faults input.new)) }
     ensures counts { StaysUnless (keys_failed result) (S.faults input.old) (S.faults input.new) }
 {
-    let mut reader = match LineReader::new(alloc, MAX_LINE) {
-        Ok(reader) => reader,
-        Err(_) => return Err(KeysStop::Memory),
-    };
+    let mut reader = LineReader::new(alloc, MAX_LINE)?;
     let mut keys = KeyList::new(alloc, Limits::standard());
     'lines: loop {
         match reader.next(input) {

@@ -37,20 +37,14 @@ fn read_dump<F: Shelf>(
     ensures counts { StaysUnless (file_failed result) (F.faults files.old) (F.faults files.new) }
     ensures closed { F.in_use files.new ≡ idle }
 {
-    match files.open_file(name) {
-        Ok(true) => {}
-        Ok(false) => return Ok(None),
-        Err(_) => return Err(ReadFault::Failed),
+    let is_there = files.open_file(name)?;
+    if !is_there {
+        return Ok(None);
     }
     let read = read_words(alloc, files);
-    match files.close() {
-        Ok(()) => {}
-        Err(_) => return Err(ReadFault::Failed),
-    }
-    match read {
-        Ok(file) => Ok(Some(file)),
-        Err(fault) => Err(fault),
-    }
+    files.close()?;
+    let file = read?;
+    Ok(Some(file))
 }
 
 /// Reads the file of the name, or tells why it can't be read.

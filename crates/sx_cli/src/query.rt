@@ -83,13 +83,11 @@ pub fn query<F: Shelf, S: Source, O: Sink, E: Sink, L: Ledger>(
         Ok(dump) => dump,
         Err(status) => return status,
     };
-    let mut reader = match LineReader::new(alloc, MAX_LINE) {
-        Ok(reader) => reader,
-        Err(_) => return tell_memory(err),
+    let Ok(mut reader) = LineReader::new(alloc, MAX_LINE) else {
+        return tell_memory(err);
     };
-    let mut replies = match TextBuffer::new(alloc) {
-        Ok(replies) => replies,
-        Err(_) => return tell_memory(err),
+    let Ok(mut replies) = TextBuffer::new(alloc) else {
+        return tell_memory(err);
     };
     let served = serve(&dump, &mut reader, &mut replies, input, out, steps);
     end(served, &mut replies, err)

@@ -61,9 +61,8 @@ pub fn run<F: Shelf, S: Source, O: Sink, E: Sink, L: Ledger>(
     ensures closed { F.in_use files.new ≡ idle }
     ensures counted { steps.old ≤ steps.new }
 {
-    let task = match read_words(alloc, words) {
-        Ok(task) => task,
-        Err(_) => return tell_memory(err),
+    let Ok(task) = read_words(alloc, words) else {
+        return tell_memory(err);
     };
     match task {
         Task::Usage(rule) => refuse_words(alloc, err, rule),

@@ -12,6 +12,7 @@ use crate::keys::MAX_LINE;
 use std::alloc::{AllocError, Global};
 use sx_edge::line::{LineFault, LineReader, Step};
 use sx_edge::shelf::Shelf;
+use sx_edge::source::Failed;
 use sx_numbers::number_of;
 use sx_text::messages::ValuesFault;
 
@@ -24,6 +25,28 @@ pub enum ValuesStop {
     Failed,
     /// Memory is wanting.
     Memory,
+}
+
+impl From<Failed> for ValuesStop {
+    ghost use Rattle.std.specs.Prelude.{◌≡◌};
+    ghost use Rattle.sx_cli.specs.declared.values.ValuesStop.TheVariants.{Failed as HasFailed};
+
+    ghost from_gives = { λ _ e. e ≡ HasFailed };
+
+    fn from(_: Failed) -> ValuesStop {
+        ValuesStop::Failed
+    }
+}
+
+impl From<AllocError> for ValuesStop {
+    ghost use Rattle.std.specs.Prelude.{◌≡◌};
+    ghost use Rattle.sx_cli.specs.declared.values.ValuesStop.TheVariants.{Memory};
+
+    ghost from_gives = { λ _ e. e ≡ Memory };
+
+    fn from(_: AllocError) -> ValuesStop {
+        ValuesStop::Memory
+    }
 }
 
 /// The numbers from 0 up to before `count`.
@@ -90,14 +113,8 @@ fn read_lines<F: Shelf>(alloc: Global, keys: u32, files: &mut F) -> Result<Vec<u
     ensures stays { F.in_use files.new ≡ reading }
     ensures files { KeepsFiles (F.files files.old) (F.files files.new) }
 {
-    let mut reader = match LineReader::new(alloc, MAX_LINE) {
-        Ok(reader) => reader,
-        Err(_) => return Err(ValuesStop::Memory),
-    };
-    let mut values = match Vec::with_capacity(alloc, keys as usize) {
-        Ok(values) => values,
-        Err(_) => return Err(ValuesStop::Memory),
-    };
+    let mut reader = LineReader::new(alloc, MAX_LINE)?;
+    let mut values = Vec::with_capacity(alloc, keys as usize)?;
     'lines: loop {
         match reader.next_file(files) {
             Ok(Step::Line) => match push_value(&mut values, keys, reader.number(), reader.line()) {
@@ -126,14 +143,11 @@ pub fn read_values<F: Shelf>(
     ensures counts { StaysUnless (values_failed result) (F.faults files.old) (F.faults files.new) }
     ensures closed { F.in_use files.new ≡ idle }
 {
-    match files.open_file(name) {
-        Ok(true) => {}
-        Ok(false) => return Err(ValuesStop::Refused(ValuesFault::NoSuchFile)),
-        Err(_) => return Err(ValuesStop::Failed),
+    let is_there = files.open_file(name)?;
+    if !is_there {
+        return Err(ValuesStop::Refused(ValuesFault::NoSuchFile));
     }
     let read = read_lines(alloc, keys, files);
-    match files.close() {
-        Ok(()) => read,
-        Err(_) => Err(ValuesStop::Failed),
-    }
+    files.close()?;
+    read
 }

@@ -16,19 +16,19 @@ returns-in-Err-check_dump-clause-promise g c =
     check_stops c.args.name.now _ _ _ c.in-Err-check_dump.status (record { shelf = answered _ _ _ c.in-Ok.ensures.counts; input = untouched _ _; out = untouched _ _; err = rw quiet.1 at c.in-Err-check_dump.ensures.counts_err }) (omega arith)
     c.in-Ok.ensures.files (record { bytes = Keeps-refl _; count = refl }) (Keeps-refl _) (rw (quiet.0, quiet.1) at (c.in-Err-check_dump.ensures.opened c.args.name.now _ c.in-Ok.ensures.found))
 
-pub returns-in-Err-new-clause-promise : goal.returns-in-Err-new-clause-promise
-returns-in-Err-new-clause-promise g c =
+pub returns-in_default-clause-promise : goal.returns-in_default-clause-promise
+returns-in_default-clause-promise g c =
     let quiet = c.in-Ok.ensures.quiet in
     let quiet_check = c.in-Ok-check_dump.ensures.quiet in
     query_memory c.args.name.now _ _ _ c.tell_memory.result (record { shelf = answered _ _ _ c.in-Ok.ensures.counts; input = untouched _ _; out = untouched _ _; err = rw (quiet_check.1, quiet.1) at c.tell_memory.ensures.counts }) (omega arith)
     c.in-Ok.ensures.files (record { bytes = Keeps-refl _; count = refl }) (Keeps-refl _) (rw (quiet_check.0, quiet_check.1, quiet.0, quiet.1) at c.tell_memory.ensures.told)
 
-pub returns-in-Err-new-2-clause-promise : goal.returns-in-Err-new-2-clause-promise
-returns-in-Err-new-2-clause-promise g c =
+pub returns-in_default-new-clause-promise : goal.returns-in_default-new-clause-promise
+returns-in_default-new-clause-promise g c =
     let quiet = c.in-Ok.ensures.quiet in
     let quiet_check = c.in-Ok-check_dump.ensures.quiet in
-    query_memory c.args.name.now _ _ _ c.tell_memory-in-Err-new-2.result (record { shelf = answered _ _ _ c.in-Ok.ensures.counts; input = untouched _ _; out = untouched _ _; err = rw (quiet_check.1, quiet.1) at c.tell_memory-in-Err-new-2.ensures.counts }) (omega arith)
-    c.in-Ok.ensures.files (record { bytes = Keeps-refl _; count = refl }) (Keeps-refl _) (rw (quiet_check.0, quiet_check.1, quiet.0, quiet.1) at c.tell_memory-in-Err-new-2.ensures.told)
+    query_memory c.args.name.now _ _ _ c.tell_memory-in_default-new.result (record { shelf = answered _ _ _ c.in-Ok.ensures.counts; input = untouched _ _; out = untouched _ _; err = rw (quiet_check.1, quiet.1) at c.tell_memory-in_default-new.ensures.counts }) (omega arith)
+    c.in-Ok.ensures.files (record { bytes = Keeps-refl _; count = refl }) (Keeps-refl _) (rw (quiet_check.0, quiet_check.1, quiet.0, quiet.1) at c.tell_memory-in_default-new.ensures.told)
 
 pub returns-clause-promise : goal.returns-clause-promise
 returns-clause-promise g c =

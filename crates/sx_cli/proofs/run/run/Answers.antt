@@ -33,8 +33,8 @@ returns-in-Usage-clause-promise g c =
     (words_refused _ _ _ (omega arith) c.refuse_words.result (record { shelf = untouched _ _; input = untouched _ _; out = untouched _ _; err = c.refuse_words.ensures.counts })
     (record { files = same_files _; count = refl }) (record { bytes = Keeps-refl _; count = refl }) (record { bytes = Keeps-refl _; count = refl }) c.in-Usage.rule c.refuse_words.ensures.told)
 
-pub returns-in-Err-clause-promise : goal.returns-in-Err-clause-promise
-returns-in-Err-clause-promise g c =
+pub returns-in_default-clause-promise : goal.returns-in_default-clause-promise
+returns-in_default-clause-promise g c =
     words_memory _ _ _ (omega arith) c.tell_memory.result (record { shelf = untouched _ _; input = untouched _ _; out = untouched _ _; err = c.tell_memory.ensures.counts })
     (record { files = same_files _; count = refl }) (record { bytes = Keeps-refl _; count = refl }) (record { bytes = Keeps-refl _; count = refl }) _ c.tell_memory.ensures.told
 

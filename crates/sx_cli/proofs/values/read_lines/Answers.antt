@@ -6,7 +6,7 @@ use Rattle.sx_cli.proofs.values.read_lines.Goals as goal
 
 pub lines-init : goal.lines-init
 lines-init g c = record {
-  reading_on = no_values c.args.keys _ c.in-Ok.reader c.in-Ok-with_capacity.values.items c.in-Ok.ensures c.in-Ok-with_capacity.ensures.items;
+  reading_on = no_values c.args.keys _ c.in_ok-reader.reader c.in_ok-values.values.items c.in_ok-reader.ensures c.in_ok-values.ensures.items;
   calm = refl;
   stays = c.requires;
   kept = same_files _;
@@ -17,17 +17,17 @@ lines-preserved g c =
     let i = c.lines.invariant in
     record {
       reading_on = value_read c.args.keys _ _ _ c.lines.reader c.next_file.new.self c.lines.values.items i.reading_on (c.in-Ok-Line.ensures.line cc) c.line.result.now (sym c.line.ensures) c.in-Ok-Line.ensures.same c.in-Ok-Line.ensures.fault
-          c.number.result c.number.ensures c.push_value.new.values.items c.in-Ok-push_value.ensures;
+          c.number.result c.number.ensures c.push_value.new.values.items c.in-Ok.ensures;
       calm = c.in-Ok-Line.ensures.counts.calm refl ∙ i.calm;
       stays = c.in-Ok-Line.ensures.stays;
       kept = KeepsFiles-trans _ _ _ i.kept c.in-Ok-Line.ensures.files;
     }
 
-pub returns-in-Err-push_value-clause-values : goal.returns-in-Err-push_value-clause-values
-returns-in-Err-push_value-clause-values g c =
+pub returns-in-Err-clause-values : goal.returns-in-Err-clause-values
+returns-in-Err-clause-values g c =
     let i = c.lines.invariant in
     value_stops c.args.keys _ _ _ c.lines.reader c.next_file.new.self c.lines.values.items i.reading_on (c.in-Ok-Line.ensures.line cc) c.line.result.now (sym c.line.ensures)
-    c.number.result c.number.ensures _ _ c.in-Err-push_value.stop c.in-Err-push_value.ensures
+    c.number.result c.number.ensures _ _ c.in-Err.stop c.in-Err.ensures
 
 pub returns-in-Err-TooLong-clause-values : goal.returns-in-Err-TooLong-clause-values
 returns-in-Err-TooLong-clause-values g c =
