@@ -125,7 +125,7 @@ typedef struct sux_failures {
     sux_failure list[16]; /* the first `count`, of seeds in their order */
 } sux_failures;
 
-/* What a build tells; what a status doesn't speak of is left as it was */
+/* What a build tells; only what its status speaks of counts */
 typedef struct sux_told {
     uint64_t words;  /* how many words the dump has */
     uint64_t seed;   /* the seed that it is built with */
@@ -150,7 +150,9 @@ uint8_t sux_open(const uint64_t *words, size_t count, uint64_t bytes, sux_dump *
 /* The reply to a line of `length` bytes, without its line feed: what `sux query` prints for it.
  *
  * SUX_DONE: `value` is the number; any other status leaves it.
- * SUX_NO_NUMBER (where `sux query` prints -1), SUX_TOO_LONG, SUX_NO_DUMP. */
+ * SUX_NO_NUMBER (where `sux query` prints -1), SUX_TOO_LONG, SUX_NO_DUMP.
+ * Each call makes a view of the dump anew. Of kind zfast that looks through the lengths of all its
+ * nodes, so ask many lines by one call of sux_replies. */
 uint8_t sux_reply(const sux_dump *dump, const uint8_t *line, size_t length, uint64_t *value);
 
 /* The replies to lines, in order: statuses[i] is what sux_reply would say of lines[i], and values[i]
