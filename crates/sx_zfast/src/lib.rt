@@ -14,7 +14,7 @@ mod view;
 
 pub use corrected::Corrections;
 pub use correcting::{Corrected, corrections};
-pub use view::ZfastView;
+pub use view::{ZfastView, largest_in};
 
 #[cfg(test)]
 mod view_tests;

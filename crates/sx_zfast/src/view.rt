@@ -111,7 +111,7 @@ fn largest_counted<B: WordBank + Copy, L: Ledger>(list: &Packed<B>, blank: Blank
 
 /// The largest number of a list of numbers of at most 32 bits, all of which are read; 0 where there
 /// are none.
-fn largest_in<B: WordBank + Copy>(list: &Packed<B>) -> u32
+pub fn largest_in<B: WordBank + Copy>(list: &Packed<B>) -> u32
     requires { list.now.width ≤ 32 }
     ensures { result ≡ largest (numbers_read list.now) }
 {
@@ -123,7 +123,8 @@ impl<B: WordBank + Copy> ZfastView<B> {
 
     /// The distributor by fewer than 2 to the power 32 delimiters, by the lists of the inner nodes,
     /// one less than delimiters and of at most 32 bits each, the map of the handles, another one
-    /// less, the function of the codes, and the corrections. All extents are read.
+    /// less, the function of the codes, the corrections, and the largest of the extents, which
+    /// `largest_in` finds.
     pub fn new(
         delimiters: u64,
         extents: Packed<B>,
@@ -133,6 +134,7 @@ impl<B: WordBank + Copy> ZfastView<B> {
         map: SignedView<B>,
         codes: FuncView<B>,
         corrections: Corrections<B>,
+        longest: u32,
     ) -> ZfastView<B>
         requires few { delimiters < 2 ^ 32 }
         requires extents { length (numbers_read extents) ≡ delimiters - 1 }
@@ -144,6 +146,7 @@ impl<B: WordBank + Copy> ZfastView<B> {
         requires narrow_firsts { firsts.width ≤ 32 }
         requires narrow_middles { middles.width ≤ 32 }
         requires narrow_afters { afters.width ≤ 32 }
+        requires longest { longest ≡ largest (numbers_read extents) }
         ensures delimiters { result.delimiters ≡ delimiters }
         ensures extents { result.extents ≡ extents }
         ensures firsts { result.firsts ≡ firsts }
@@ -153,7 +156,6 @@ impl<B: WordBank + Copy> ZfastView<B> {
         ensures codes { result.codes ≡ codes }
         ensures corrections { result.corrections ≡ corrections }
     {
-        let longest = largest_in(&extents);
         ZfastView {
             delimiters,
             extents,

@@ -3,7 +3,7 @@
 
 ghost use Rattle.std.specs.Prelude.{◌≡◌, ◌<◌, ◌≤◌, length};
 
-use crate::{Corrections, ZfastView};
+use crate::{Corrections, ZfastView, largest_in};
 use std::marker::Brand;
 use std::sync::ledger::{Blank, Ledger};
 use std::test::Fail;
@@ -78,15 +78,18 @@ fn block_counted<L: Ledger>(kept: Kept, line: &[u8], blank: Blank) -> Option<u64
     );
     let blocks = Packed::new(Words::new(&blocks), 0, 1, 4);
     let corrections = Corrections::new(Words::new(&kept.corrected), 0, 1, blocks);
+    let extents = Packed::new(Words::new(&extents), 0, nodes, 3);
+    let longest = largest_in(&extents);
     let view = ZfastView::new(
         kept.delimiters,
-        Packed::new(Words::new(&extents), 0, nodes, 3),
+        extents,
         Packed::new(Words::new(&firsts), 0, nodes, 3),
         Packed::new(Words::new(&middles), 0, nodes, 3),
         Packed::new(Words::new(&afters), 0, nodes, 3),
         map,
         function_in(&codes)?,
         corrections,
+        longest,
     );
     let bits = BitView::key_bits(line);
     let sig = sign(0, &bits, None, 192);
