@@ -66,10 +66,9 @@ impl TextBuffer {
         requires { length self.old + length bytes.now ≤ 65536 }
         ensures { self.new ≡ self.old ++ bytes.now }
     {
-        match self.bytes.extend_from_slice(bytes) {
-            Ok(()) => {}
-            Err(_) => unreachable!(),
-        }
+        let Ok(()) = self.bytes.extend_from_slice(bytes) else {
+            unreachable!();
+        };
     }
 
     /// Puts a number at the end, in decimal. There is room for 20 bytes.
@@ -119,10 +118,7 @@ impl TextBuffer {
             (AppendsPrefix (K.written sink.old) (K.written sink.new) self.old) }
         ensures cause { HasCause (K.faults sink.old) (K.faults sink.new) result }
     {
-        match write_all(sink, &self.bytes) {
-            Ok(()) => {}
-            Err(_) => return Err(Failed),
-        }
+        write_all(sink, &self.bytes)?;
         self.bytes.clear();
         Ok(())
     }
