@@ -35,15 +35,11 @@ pub fn walk(words: &[u64], header: &Header) -> Result<Places, Check>
     let mut count = 0;
     for slot in slots.as_slice() {
         let rule = slot.rule.after(width, count);
-        match check_section(words, at, rule) {
-            Ok(place) => {
-                at = place.after();
-                width = place.width();
-                count = place.count();
-                places.push(place);
-            }
-            Err(check) => return Err(check),
-        }
+        let place = check_section(words, at, rule)?;
+        at = place.after();
+        width = place.width();
+        count = place.count();
+        places.push(place);
     }
     if at != words.len() {
         return Err(Check::Rest);

@@ -10,7 +10,7 @@ loop-slot-preserved c =
       room = omega arith;
       found =
           turned (header_as c.args.header.now) c.args.words.now c.loop-slot.places.items _ c.as_slice-slot-items.result.now c.loop-slot.slot-index
-          c.loop-slot.at c.loop-slot.width c.loop-slot.count c.after-at.result c.width-width.result c.count-count.result _ c.after-rule.result c.in-Ok.place
-          c.loop-slot-test.true c.loop-slot.invariant.found c.after-rule.ensures.rule c.in-Ok.ensures c.push.ensures.items
+          c.loop-slot.at c.loop-slot.width c.loop-slot.count c.after-at.result c.width-width.result c.count-count.result _ c.after-rule.result c.in_ok-place.place
+          c.loop-slot-test.true c.loop-slot.invariant.found c.after-rule.ensures.rule c.in_ok-place.ensures c.push.ensures.items
           c.after-at.ensures c.width-width.ensures c.count-count.ensures;
     }
