@@ -74,10 +74,7 @@ pub fn read_keys<S: Source>(alloc: Global, input: &mut S) -> Result<KeyList, Key
     let mut keys = KeyList::new(alloc, Limits::standard());
     'lines: loop {
         match reader.next(input) {
-            Ok(Step::Line) => match push_key(&mut keys, reader.number(), reader.line()) {
-                Ok(()) => {}
-                Err(stop) => return Err(stop),
-            },
+            Ok(Step::Line) => push_key(&mut keys, reader.number(), reader.line())?,
             Ok(Step::End) => return Ok(keys),
             Err(LineFault::TooLong { line }) => {
                 return Err(KeysStop::Refused {

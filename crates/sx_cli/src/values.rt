@@ -117,10 +117,7 @@ fn read_lines<F: Shelf>(alloc: Global, keys: u32, files: &mut F) -> Result<Vec<u
     let mut values = Vec::with_capacity(alloc, keys as usize)?;
     'lines: loop {
         match reader.next_file(files) {
-            Ok(Step::Line) => match push_value(&mut values, keys, reader.number(), reader.line()) {
-                Ok(()) => {}
-                Err(stop) => return Err(stop),
-            },
+            Ok(Step::Line) => push_value(&mut values, keys, reader.number(), reader.line())?,
             Ok(Step::End) => return enough(values, keys),
             Err(LineFault::TooLong { line }) => return Err(long_line(keys, line)),
             Err(LineFault::ReadFault) => return Err(ValuesStop::Failed),

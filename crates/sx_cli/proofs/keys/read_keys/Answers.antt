@@ -1,5 +1,6 @@
 use Rattle.std.proofs.Common.{refl, ◌≡◌, ◌++◌, ◌∷◌, [], None, Some, length, ℕ, arith, sym, ap, subst, ◌∙◌, List, Option}
 use Rattle.std.proofs.lemmas.List.{length-append}
+use Rattle.std.proofs.lemmas.Result.{err_from_is_err_and}
 use Rattle.sx_spec.specs.declared.Limits.{Limits}
 use Rattle.sx_spec.specs.Command.{Text}
 use Rattle.sx_spec.specs.Keys.{refusal, AreKeys}
@@ -57,7 +58,7 @@ pub lines-preserved : goal.lines-preserved
 lines-preserved g c =
     let i = c.lines.invariant in
     let gives = c.in-Ok-Line.ensures.line cc in
-    let pushed = c.in-Ok.ensures in
+    let pushed = c.in_ok-push_key-in-Ok-Line.ensures in
     let (limits, same, valid) = grown c.lines.keys c.push_key.new.keys c.line.result.now i.limits i.valid pushed.0 pushed.1 in
     let progress = after_line _ _ _ c.lines.reader c.next.new.self c.lines.keys.lines i.progress gives c.line.result.now (sym c.line.ensures) in
     let many = (faultless_lines_are_keys standard_limits c.push_key.new.keys.lines valid).count in
@@ -79,11 +80,12 @@ stopped (Refused at reason) limits keys line number old new before after same re
 stopped Failed limits keys line number old new before after same refuses h = absurd h
 stopped Memory limits keys line number old new before after same refuses h = tt
 
-pub returns-in-Err-clause-keys : goal.returns-in-Err-clause-keys
-returns-in-Err-clause-keys g c =
+pub returns-in_err-push_key-in-Ok-Line-clause-keys : goal.returns-in_err-push_key-in-Ok-Line-clause-keys
+returns-in_err-push_key-in-Ok-Line-clause-keys g c =
     let i = c.lines.invariant in
     let gives = c.in-Ok-Line.ensures.line (cc) in
     let progress = after_line _ _ _ c.lines.reader c.next.new.self c.lines.keys.lines i.progress gives c.line.result.now (sym c.line.ensures) in
-    stopped c.in-Err.stop c.lines.keys.limits c.lines.keys.lines c.line.result.now c.number.result _ _ _ _ i.limits
+    let left = err_from_is_err_and c.from_residual-in_err-push_key-in-Ok-Line.result c.from_residual-in_err-push_key-in-Ok-Line.ensures.1 in
+    rw (left.1, left.2) (stopped c.in_err-push_key-in-Ok-Line.field-0.0 c.lines.keys.limits c.lines.keys.lines c.line.result.now c.number.result _ _ _ _ i.limits
     (λ at reason same refused. pushed_key _ _ c.next.new.self.held c.next.new.self.ended c.lines.keys.lines c.line.result.now at (reason_of reason) (omega (arith, same, c.number.ensures, gives.number, i.number)) i.valid refused progress)
-    c.in-Err.ensures
+    c.in_err-push_key-in-Ok-Line.ensures)

@@ -1,4 +1,5 @@
 use Rattle.std.proofs.Common.{refl, sym, ◌∙◌}
+use Rattle.std.proofs.lemmas.Result.{err_from_is_err_and}
 use Rattle.sx_edge.specs.Kept.{KeepsFiles-trans}
 use Rattle.sx_cli.proofs.Endings.{same_files}
 use Rattle.sx_cli.proofs.ValueReadings.{no_values, value_read, value_stops, long_stops, values_end}
@@ -17,17 +18,18 @@ lines-preserved g c =
     let i = c.lines.invariant in
     record {
       reading_on = value_read c.args.keys _ _ _ c.lines.reader c.next_file.new.self c.lines.values.items i.reading_on (c.in-Ok-Line.ensures.line cc) c.line.result.now (sym c.line.ensures) c.in-Ok-Line.ensures.same c.in-Ok-Line.ensures.fault
-          c.number.result c.number.ensures c.push_value.new.values.items c.in-Ok.ensures;
+          c.number.result c.number.ensures c.push_value.new.values.items c.in_ok-push_value-in-Ok-Line.ensures;
       calm = c.in-Ok-Line.ensures.counts.calm refl ∙ i.calm;
       stays = c.in-Ok-Line.ensures.stays;
       kept = KeepsFiles-trans _ _ _ i.kept c.in-Ok-Line.ensures.files;
     }
 
-pub returns-in-Err-clause-values : goal.returns-in-Err-clause-values
-returns-in-Err-clause-values g c =
+pub returns-in_err-push_value-in-Ok-Line-clause-values : goal.returns-in_err-push_value-in-Ok-Line-clause-values
+returns-in_err-push_value-in-Ok-Line-clause-values g c =
     let i = c.lines.invariant in
-    value_stops c.args.keys _ _ _ c.lines.reader c.next_file.new.self c.lines.values.items i.reading_on (c.in-Ok-Line.ensures.line cc) c.line.result.now (sym c.line.ensures)
-    c.number.result c.number.ensures _ _ c.in-Err.stop c.in-Err.ensures
+    let left = err_from_is_err_and c.from_residual-in_err-push_value-in-Ok-Line.result c.from_residual-in_err-push_value-in-Ok-Line.ensures.1 in
+    rw (left.1, left.2) (value_stops c.args.keys _ _ _ c.lines.reader c.next_file.new.self c.lines.values.items i.reading_on (c.in-Ok-Line.ensures.line cc) c.line.result.now (sym c.line.ensures)
+    c.number.result c.number.ensures _ _ c.in_err-push_value-in-Ok-Line.field-0.0 c.in_err-push_value-in-Ok-Line.ensures)
 
 pub returns-in-Err-TooLong-clause-values : goal.returns-in-Err-TooLong-clause-values
 returns-in-Err-TooLong-clause-values g c =
