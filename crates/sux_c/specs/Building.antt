@@ -12,6 +12,8 @@ use Rattle.sx_spec.specs.Parts.{least_width, parts_of}
 use Rattle.sx_spec.specs.Reply.{AnswersMembers}
 use Rattle.sx_spec.specs.StaticFunction.{Part, SeedFailure, IsFirstWorkingSeed, IsSeedFailure}
 use Rattle.sx_spec.specs.Values.{plain_values}
+use Rattle.sux_c.specs.declared.keys.KeyStop.{KeyStop}
+use Rattle.sux_c.specs.declared.keys.KeyStop.TheVariants.{Refused, Memory as KeyMemory}
 use Rattle.sux_c.specs.declared.building.Stop.{Stop}
 use Rattle.sux_c.specs.declared.building.Stop.TheVariants.{Asked, Count, Key, Memory}
 use Rattle.sux_c.specs.declared.plan.SuxPlan.{SuxPlan}
@@ -78,6 +80,11 @@ pub record IsBuilding (p : SuxPlan) (keys : List (List ℕ)) (values seeds : Lis
   pub counts : fits_counts (plan_of p) (length keys) (length values) (length seeds) ≡ true
   pub valid : AreKeys standard_limits keys
   pub tried : IsTried (plan_of p) keys (values_of keys values) seeds t
+
+-- why there is no build where there is no list of the keys
+abbrev pub stop_of : KeyStop → Stop
+stop_of (Refused number rule) = Key number rule
+stop_of KeyMemory = Memory
 
 -- why there is no build
 abbrev pub IsStop : SuxPlan → List (List ℕ) → (values seeds : List ℕ) → Stop → Type 0

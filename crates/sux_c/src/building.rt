@@ -31,6 +31,31 @@ pub(crate) enum Stop {
     Memory,
 }
 
+impl From<KeyStop> for Stop {
+    ghost use Rattle.std.specs.Prelude.{◌≡◌};
+    ghost use Rattle.sux_c.specs.Building.{stop_of};
+
+    ghost from_gives = { λ stop e. e ≡ stop_of stop };
+
+    fn from(stop: KeyStop) -> Stop {
+        match stop {
+            KeyStop::Refused { number, rule } => Stop::Key { number, rule },
+            KeyStop::Memory => Stop::Memory,
+        }
+    }
+}
+
+impl From<AllocError> for Stop {
+    ghost use Rattle.std.specs.Prelude.{◌≡◌};
+    ghost use Rattle.sux_c.specs.declared.building.Stop.TheVariants.{Memory};
+
+    ghost from_gives = { λ _ e. e ≡ Memory };
+
+    fn from(_: AllocError) -> Stop {
+        Stop::Memory
+    }
+}
+
 /// Whether there are as many values as the plan takes for so many keys, or none.
 fn fits_values(plan: &Plan, keys: usize, values: usize) -> bool
     ensures { result ≡ values_fit plan.now keys values }
@@ -99,15 +124,8 @@ fn build(
     if !fits(&plan, keys.len(), values.len(), seeds.len()) {
         return Err(Stop::Count);
     }
-    let list = match list_of(alloc, keys) {
-        Ok(list) => list,
-        Err(KeyStop::Refused { number, rule }) => return Err(Stop::Key { number, rule }),
-        Err(KeyStop::Memory) => return Err(Stop::Memory),
-    };
-    match build_list(alloc, &plan, &list, values, seeds) {
-        Ok(tried) => Ok(tried),
-        Err(_) => Err(Stop::Memory),
-    }
+    let list = list_of(alloc, keys)?;
+    Ok(build_list(alloc, &plan, &list, values, seeds)?)
 }
 
 /// Builds the dump of the keys and values by the first seed that works, and puts its words at the

@@ -54,10 +54,7 @@ pub(crate) fn list_of(alloc: Global, keys: &[&[u8]]) -> Result<KeyList, KeyStop>
 {
     let mut list = KeyList::new(alloc, Limits::standard());
     'keys: for key in keys {
-        match push_key(&mut list, key) {
-            Ok(()) => {}
-            Err(stop) => return Err(stop),
-        }
+        push_key(&mut list, key)?;
     }
     Ok(list)
 }
