@@ -2,6 +2,7 @@
 #![tactic(auto)]
 
 mod counts;
+pub mod directories;
 mod groups;
 pub mod ranksel;
 mod search;

@@ -2,11 +2,13 @@
 ghost use Rattle.std.specs.Prelude.{◌≡◌, ◌+◌, ◌*◌, ◌/◌, ◌<◌, ◌≤◌, ◌^◌, All, IfOk, IfSome, length, slice_index};
 ghost use Rattle.std.specs.Int.{bit_at};
 ghost use Rattle.sx_spec.specs.Fields.{ones_of, words_for};
-ghost use Rattle.sx_ranksel.specs.Directory.{directory_of, number_at, rank_of};
-ghost use Rattle.sx_ranksel.specs.Groups.{AreGroups, IsShort, place_of};
+ghost use Rattle.sx_ranksel.specs.Directory.{number_at, rank_of};
+ghost use Rattle.sx_ranksel.specs.Groups.{IsShort, place_of};
+ghost use Rattle.sx_ranksel.specs.Rooms.{AreDirectories};
 
-use crate::counts::{next_between, ones_below, ones_between, select_between};
-use crate::groups::{LISTED, groups_of};
+use crate::counts::{next_between, ones_below, select_between};
+use crate::directories::Directories;
+use crate::groups::LISTED;
 use std::alloc::{AllocError, Global};
 use std::marker::Brand;
 use std::sync::ledger::{Blank, Ledger};
@@ -16,99 +18,94 @@ use sx_steps::Steps;
 /// The bits of a bank from a word on, with a directory of the ones before each block of eight words, and one of where each
 /// group of 64 ones stands.
 #[derive(Drop)]
-pub struct RankSel<B: WordBank + Copy> {
+pub struct RankSel<B: WordBank + Copy, D: WordBank> {
     bank: B,
     first: usize,
     bits: u64,
     ones: u64,
-    directory: WordsBuf,
-    groups: WordsBuf,
-    places: WordsBuf,
+    directories: Directories<D>,
     ghost few: { bits ≤ 2 ^ 34 },
     ghost within: { first + words_for bits ≤ length (B.words_of bank) },
     ghost long: { length (B.words_of bank) < 2 ^ 64 },
     ghost small: { All (λ w. w < 2 ^ 64) (B.words_of bank) },
     ghost counted: { ones ≡ rank_of bits (number_at first (B.words_of bank)) },
-    ghost listed: { directory.words.items ≡ directory_of bits (number_at first (B.words_of bank)) },
-    ghost grouped: { AreGroups bits (number_at first (B.words_of bank)) groups.words.items
-        places.words.items },
+    ghost made: { AreDirectories (B.words_of bank) first bits (D.words_of directories.directory)
+        (D.words_of directories.groups) (D.words_of directories.places) },
 }
 
-/// The ones before each block of eight words, and before the block that begins where the bits end.
-fn block_counts<B: WordBank, L: Ledger>(
-    alloc: Global,
-    bank: &B,
-    first: usize,
-    bits: u64,
-    steps: &mut Steps<L>,
-) -> Result<Vec<u64>, AllocError>
-    requires few { bits ≤ 2 ^ 34 }
-    requires within { first + words_for bits ≤ length (B.words_of bank.now) }
-    requires small { All (λ w. w < 2 ^ 64) (B.words_of bank.now) }
-    requires long { length (B.words_of bank.now) < 2 ^ 64 }
-    ensures counts { IfOk result (λ v. v.items
-        ≡ directory_of bits (number_at first (B.words_of bank.now))) }
-    ensures counted { steps.old ≤ steps.new }
-    ensures cost { IfOk result (λ _. steps.new ≡ steps.old + 8 * (bits / 512)) }
-{
-    let blocks = (bits / 512) as usize;
-    let mut counts = Vec::with_capacity(alloc, blocks + 1)?;
-    let mut ones = 0;
-    counts.push(ones)?;
-    for block in 0..blocks {
-        ones += ones_between(bank, first, 8 * block, 8 * block + 8, steps);
-        counts.push(ones)?;
-    }
-    Ok(counts)
-}
-
-/// What `RankSel::build` makes, with a count of its own.
-fn build_counted<B: WordBank + Copy, L: Ledger>(
-    alloc: Global,
+/// What `RankSel::over` makes, with a count of its own.
+fn over_counted<B: WordBank + Copy, D: WordBank, L: Ledger>(
     bank: B,
     first: usize,
     bits: u64,
+    directories: Directories<D>,
     blank: Blank,
-) -> Result<RankSel<B>, AllocError>
+) -> RankSel<B, D>
     requires name { blank.name ≡ L.name }
     requires parts { blank.parts ≡ L.parts }
     requires some { 0 < blank.parts }
     requires few { bits ≤ 2 ^ 34 }
     requires within { first + words_for bits ≤ length (B.words_of bank) }
-    ensures bank { IfOk result (λ r. r.bank ≡ bank) }
-    ensures first { IfOk result (λ r. r.first ≡ first) }
-    ensures bits { IfOk result (λ r. r.bits ≡ bits) }
+    requires made { AreDirectories (B.words_of bank) first bits
+        (D.words_of directories.directory) (D.words_of directories.groups)
+        (D.words_of directories.places) }
+    ensures bank { result.bank ≡ bank }
+    ensures first { result.first ≡ first }
+    ensures bits { result.bits ≡ bits }
+    ensures directories { result.directories ≡ directories }
 {
     let mut steps = Steps::<L>::new(blank);
     let _words = bank.words();
-    let counts = block_counts(alloc, &bank, first, bits, &mut steps)?;
-    let before = counts[(bits / 512) as usize];
+    let before = directories
+        .directory
+        .word((bits / 512) as usize, &mut steps);
     let ones = ones_below(&bank, first, before, bits, &mut steps);
-    let groups = groups_of(alloc, &bank, first, bits, ones, &mut steps)?;
-    Ok(RankSel {
+    RankSel {
         bank,
         first,
         bits,
         ones,
-        directory: WordsBuf::new(counts),
-        groups: WordsBuf::new(groups.words),
-        places: WordsBuf::new(groups.places),
-    })
+        directories,
+    }
 }
 
-impl<B: WordBank + Copy> RankSel<B> {
+impl<B: WordBank + Copy> RankSel<B, WordsBuf> {
     /// The `bits` bits of the bank from word `first` on. No other call takes memory.
     ///
     /// # Errors
     /// Only for want of memory.
-    pub fn build(alloc: Global, bank: B, first: usize, bits: u64) -> Result<RankSel<B>, AllocError>
+    pub fn build(
+        alloc: Global,
+        bank: B,
+        first: usize,
+        bits: u64,
+    ) -> Result<RankSel<B, WordsBuf>, AllocError>
         requires few { bits ≤ 2 ^ 34 }
         requires within { first + words_for bits ≤ length (B.words_of bank) }
         ensures bank { IfOk result (λ r. r.bank ≡ bank) }
         ensures first { IfOk result (λ r. r.first ≡ first) }
         ensures bits { IfOk result (λ r. r.bits ≡ bits) }
     {
-        build_counted::<B, Brand>(alloc, bank, first, bits, Blank::new(1))
+        let directories = Directories::of(alloc, bank, first, bits)?;
+        Ok(RankSel::over(bank, first, bits, directories.owned()))
+    }
+}
+
+impl<B: WordBank + Copy, D: WordBank> RankSel<B, D> {
+    /// The `bits` bits of the bank from word `first` on, with their directories. At most nine words
+    /// are read.
+    pub fn over(bank: B, first: usize, bits: u64, directories: Directories<D>) -> RankSel<B, D>
+        requires few { bits ≤ 2 ^ 34 }
+        requires within { first + words_for bits ≤ length (B.words_of bank) }
+        requires made { AreDirectories (B.words_of bank) first bits
+            (D.words_of directories.directory) (D.words_of directories.groups)
+            (D.words_of directories.places) }
+        ensures bank { result.bank ≡ bank }
+        ensures first { result.first ≡ first }
+        ensures bits { result.bits ≡ bits }
+        ensures directories { result.directories ≡ directories }
+    {
+        over_counted::<B, D, Brand>(bank, first, bits, directories, Blank::new(1))
     }
 
     /// How many ones there are.
@@ -126,7 +123,7 @@ impl<B: WordBank + Copy> RankSel<B> {
         ensures counted { steps.old < steps.new }
         ensures cost { steps.new ≤ steps.old + 10 }
     {
-        let before = self.directory.word((pos / 512) as usize, steps);
+        let before = self.directories.directory.word((pos / 512) as usize, steps);
         ones_below(&self.bank, self.first, before, pos, steps)
     }
 
@@ -184,12 +181,12 @@ impl<B: WordBank + Copy> RankSel<B> {
         ensures counted { steps.old < steps.new }
         ensures cost { steps.new ≤ steps.old + 32 }
     {
-        let word = self.groups.word((k / 64) as usize, steps);
+        let word = self.directories.groups.word((k / 64) as usize, steps);
         if word < LISTED {
             return self.one_near(word, k, steps);
         }
-        let listed = (word - LISTED) as usize;
-        self.places.word(listed + (k % 64) as usize, steps)
+        let place = (word - LISTED) as usize + (k % 64) as usize;
+        self.directories.places.word(place, steps)
     }
 
     /// The place of one number `k` of a group whose ones stand in 30 words, the first of them at `start`.

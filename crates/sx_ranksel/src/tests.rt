@@ -9,7 +9,11 @@ use std::test::Fail;
 use sx_fields::bank::{WordBank, Words};
 use sx_steps::Steps;
 
-fn counted_rank<B: WordBank + Copy, L: Ledger>(bits: &RankSel<B>, pos: u64, blank: Blank) -> u64
+fn counted_rank<B: WordBank + Copy, D: WordBank, L: Ledger>(
+    bits: &RankSel<B, D>,
+    pos: u64,
+    blank: Blank,
+) -> u64
     requires name { blank.name ≡ L.name }
     requires parts { blank.parts ≡ L.parts }
     requires some { 0 < blank.parts }
@@ -19,14 +23,14 @@ fn counted_rank<B: WordBank + Copy, L: Ledger>(bits: &RankSel<B>, pos: u64, blan
     bits.rank(pos, &mut steps)
 }
 
-fn rank<B: WordBank + Copy>(bits: &RankSel<B>, pos: u64) -> u64
+fn rank<B: WordBank + Copy, D: WordBank>(bits: &RankSel<B, D>, pos: u64) -> u64
     requires { pos ≤ bits.now.bits }
 {
-    counted_rank::<B, Brand>(bits, pos, Blank::new(1))
+    counted_rank::<B, D, Brand>(bits, pos, Blank::new(1))
 }
 
-fn counted_select<B: WordBank + Copy, L: Ledger>(
-    bits: &RankSel<B>,
+fn counted_select<B: WordBank + Copy, D: WordBank, L: Ledger>(
+    bits: &RankSel<B, D>,
     k: u64,
     blank: Blank,
 ) -> Option<u64>
@@ -42,8 +46,8 @@ fn counted_select<B: WordBank + Copy, L: Ledger>(
     }
 }
 
-fn select<B: WordBank + Copy>(bits: &RankSel<B>, k: u64) -> Option<u64> {
-    counted_select::<B, Brand>(bits, k, Blank::new(1))
+fn select<B: WordBank + Copy, D: WordBank>(bits: &RankSel<B, D>, k: u64) -> Option<u64> {
+    counted_select::<B, D, Brand>(bits, k, Blank::new(1))
 }
 
 #[test]
@@ -96,8 +100,8 @@ fn many_blocks(rt: HostRuntime) -> Result<(), Fail> {
 }
 
 /// The places of ones number `k` and `k + 1`.
-fn counted_pair<B: WordBank + Copy, L: Ledger>(
-    bits: &RankSel<B>,
+fn counted_pair<B: WordBank + Copy, D: WordBank, L: Ledger>(
+    bits: &RankSel<B, D>,
     k: u64,
     blank: Blank,
 ) -> Option<(u64, u64)>
@@ -113,8 +117,8 @@ fn counted_pair<B: WordBank + Copy, L: Ledger>(
     }
 }
 
-fn pair<B: WordBank + Copy>(bits: &RankSel<B>, k: u64) -> Option<(u64, u64)> {
-    counted_pair::<B, Brand>(bits, k, Blank::new(1))
+fn pair<B: WordBank + Copy, D: WordBank>(bits: &RankSel<B, D>, k: u64) -> Option<(u64, u64)> {
+    counted_pair::<B, D, Brand>(bits, k, Blank::new(1))
 }
 
 #[test]

@@ -3,7 +3,7 @@ use Rattle.std.specs.List.{range_with_len}
 use Rattle.std.proofs.lemmas.List.FromFn.{map-range_with_len_more}
 use Rattle.sx_ranksel.specs.Directory.{number_at, rank_of}
 use Rattle.sx_ranksel.proofs.Ranks.{rank_le}
-use Rattle.sx_ranksel.proofs.ranksel.block_counts.Goals as goal
+use Rattle.sx_ranksel.proofs.directories.block_counts.Goals as goal
 
 pub overflow_add-ones : goal.overflow_add-ones
 overflow_add-ones g c =

@@ -1,7 +1,7 @@
 use Rattle.std.proofs.Common.{◌≡◌, ◌+◌, ◌*◌, map}
 use Rattle.std.specs.List.{range_with_len}
 use Rattle.sx_ranksel.specs.Directory.{number_at, rank_of}
-use Rattle.sx_ranksel.proofs.ranksel.block_counts.Given as goal
+use Rattle.sx_ranksel.proofs.directories.block_counts.Given as goal
 
 abbrev pub invariant-loop-block : goal.invariant-loop-block
 invariant-loop-block g l =
