@@ -13,8 +13,8 @@ use sx_fields::fields::Fields;
 use sx_steps::Steps;
 
 /// Number `i`, and it with the next, where there are such. The next one is also read on to.
-fn read<B: WordBank + Copy, L: Ledger>(
-    list: &EliasFano<B>,
+fn read<B: WordBank + Copy, D: WordBank, L: Ledger>(
+    list: &EliasFano<B, D>,
     i: usize,
     blank: Blank,
 ) -> (Option<u64>, Option<(u64, u64)>)
@@ -42,8 +42,11 @@ fn read<B: WordBank + Copy, L: Ledger>(
     (number, pair)
 }
 
-fn at<B: WordBank + Copy>(list: &EliasFano<B>, i: usize) -> (Option<u64>, Option<(u64, u64)>) {
-    read::<B, Brand>(list, i, Blank::new(1))
+fn at<B: WordBank + Copy, D: WordBank>(
+    list: &EliasFano<B, D>,
+    i: usize,
+) -> (Option<u64>, Option<(u64, u64)>) {
+    read::<B, D, Brand>(list, i, Blank::new(1))
 }
 
 #[test]
@@ -90,7 +93,7 @@ fn sections(rt: HostRuntime) -> Result<(), Fail> {
         (found.count, found.below, found.body, found.after),
         (3, 7, 3, 5)
     );
-    let list = EliasFano::over(
+    let list = EliasFano::build(
         rt.alloc(),
         Words::new(&words),
         found.body,
@@ -136,7 +139,7 @@ fn equal_numbers_and_far_ones(rt: HostRuntime) -> Result<(), Fail> {
         assert!(rt; false);
         return Ok(());
     };
-    let list = EliasFano::over(
+    let list = EliasFano::build(
         rt.alloc(),
         Words::new(&words),
         found.body,

@@ -1,24 +1,26 @@
 //! An Elias-Fano list in the words of a bank.
 ghost use Rattle.std.specs.Prelude.{◌≡◌, ◌+◌, ◌<◌, ◌≤◌, ◌^◌, ◌++◌, ℕ, All, IfOk, drop, length, slice_index, true};
-ghost use Rattle.sx_spec.specs.Fields.{below_of, fields, low_words, ones_of, upper_words};
+ghost use Rattle.sx_spec.specs.Fields.{below_of, fields, low_words, ones_of, upper_bits, upper_words};
 ghost use Rattle.sx_ranksel.specs.Directory.{number_at, rank_of};
 ghost use Rattle.sx_ef.specs.Cursors.{IsCursor};
 ghost use Rattle.sx_ef.specs.Parts.{is_sums_list, low_size, numbers_in, sums_of, upper_size};
+ghost use Rattle.sx_ef.specs.Rooms.{AreListRooms};
 
 use crate::cursor::Cursor;
 use crate::encode::{EfBuf, encode, low_bits};
 use std::alloc::{AllocError, Global};
 use std::sync::ledger::Ledger;
-use sx_fields::bank::{WordBank, Words};
+use sx_fields::bank::{WordBank, Words, WordsBuf};
 use sx_fields::fields::Fields;
 use sx_fields::packed::Packed;
+use sx_ranksel::directories::Directories;
 use sx_ranksel::ranksel::RankSel;
 use sx_steps::Steps;
 
 /// Numbers that never fall, of which any is read in at most 80 ticks.
 #[derive(Drop)]
-pub struct EliasFano<B: WordBank + Copy> {
-    upper: RankSel<B>,
+pub struct EliasFano<B: WordBank + Copy, D: WordBank> {
+    upper: RankSel<B, D>,
     low: Packed<B>,
     count: usize,
     width: u32,
@@ -33,7 +35,24 @@ pub struct EliasFano<B: WordBank + Copy> {
         (fields low.width low.len (drop low.first (B.words_of low.bank)))) },
 }
 
-impl EliasFano<Words<'static>> {
+/// Where the upper bits of a list begin whose words stand from word `first` on, and how many there are.
+#[inline]
+fn upper_of(first: usize, count: u64, below: u64) -> (usize, u64)
+    requires some { 0 < count }
+    requires few { count < 2 ^ 32 }
+    requires above { 0 < below }
+    requires within { first + low_size count below < 2 ^ 64 }
+    ensures start { result.0 ≡ first + low_size count below }
+    ensures bits { result.1 ≡ upper_bits count below }
+    ensures few { result.1 < 2 ^ 34 }
+{
+    let width = low_bits(count, below);
+    let start = first + (count * u64::from(width)).div_ceil(64) as usize;
+    let bits = count + ((below - 1) >> width);
+    (start, bits)
+}
+
+impl EliasFano<Words<'static>, WordsBuf> {
     /// The low and the upper words of numbers that never fall. No number is 2^64 - 1.
     ///
     /// # Errors
@@ -57,47 +76,101 @@ impl EliasFano<Words<'static>> {
     }
 }
 
-impl<B: WordBank + Copy> EliasFano<B> {
-    /// The list of `count` numbers below `below` whose low and upper words stand from word `first` on. No other call takes
-    /// memory.
+impl<B: WordBank + Copy> EliasFano<B, WordsBuf> {
+    /// The directories of the list of `count` numbers below `below` whose low and upper words stand
+    /// from word `first` on.
     ///
     /// # Errors
     /// Only for want of memory.
-    pub fn over(
+    pub fn directories(
         alloc: Global,
         bank: B,
         first: usize,
         count: u64,
         below: u64,
-    ) -> Result<EliasFano<B>, AllocError>
+    ) -> Result<Directories<Vec<u64>>, AllocError>
+        requires some { 0 < count }
+        requires few { count < 2 ^ 32 }
+        requires above { 0 < below }
+        requires within { first + low_size count below + upper_size count below
+            ≤ length (B.words_of bank) }
+        ensures made { IfOk result (λ d. AreListRooms (B.words_of bank) first count below
+            d.directory.items d.groups.items d.places.items) }
+    {
+        let _words = bank.words();
+        let (start, bits) = upper_of(first, count, below);
+        Directories::of(alloc, bank, start, bits)
+    }
+
+    /// The list of `count` numbers below `below` whose low and upper words stand from word `first` on. No other call takes
+    /// memory.
+    ///
+    /// # Errors
+    /// Only for want of memory.
+    pub fn build(
+        alloc: Global,
+        bank: B,
+        first: usize,
+        count: u64,
+        below: u64,
+    ) -> Result<EliasFano<B, WordsBuf>, AllocError>
         requires some { 0 < count }
         requires few { count < 2 ^ 32 }
         requires above { 0 < below }
         requires within { first + low_size count below + upper_size count below
             ≤ length (B.words_of bank) }
         requires valid { is_sums_list count below (drop first (B.words_of bank)) ≡ true }
-        ensures items { IfOk result (λ e. ⟦<EliasFano<B> as Fields>⟧.items e
+        ensures items { IfOk result (λ e. ⟦<EliasFano<B, WordsBuf> as Fields>⟧.items e
             ≡ numbers_in count below (drop first (B.words_of bank))) }
-        ensures len { IfOk result (λ e. length (⟦<EliasFano<B> as Fields>⟧.items e) ≡ count) }
+        ensures len { IfOk result
+            (λ e. length (⟦<EliasFano<B, WordsBuf> as Fields>⟧.items e) ≡ count) }
+    {
+        let directories = EliasFano::directories(alloc, bank, first, count, below)?;
+        Ok(EliasFano::over(bank, first, count, below, directories.owned()))
+    }
+}
+
+impl<B: WordBank + Copy, D: WordBank> EliasFano<B, D> {
+    /// The list of `count` numbers below `below` whose low and upper words stand from word `first` on,
+    /// with its directories. At most nine words are read.
+    pub fn over(
+        bank: B,
+        first: usize,
+        count: u64,
+        below: u64,
+        directories: Directories<D>,
+    ) -> EliasFano<B, D>
+        requires some { 0 < count }
+        requires few { count < 2 ^ 32 }
+        requires above { 0 < below }
+        requires within { first + low_size count below + upper_size count below
+            ≤ length (B.words_of bank) }
+        requires valid { is_sums_list count below (drop first (B.words_of bank)) ≡ true }
+        requires made { AreListRooms (B.words_of bank) first count below
+            (D.words_of directories.directory) (D.words_of directories.groups)
+            (D.words_of directories.places) }
+        ensures items { ⟦<EliasFano<B, D> as Fields>⟧.items result
+            ≡ numbers_in count below (drop first (B.words_of bank)) }
+        ensures len { length (⟦<EliasFano<B, D> as Fields>⟧.items result) ≡ count }
     {
         let _words = bank.words();
         let width = low_bits(count, below);
         let low = Packed::new(bank, first, count as usize, width);
-        let start = first + (count * u64::from(width)).div_ceil(64) as usize;
-        let upper = RankSel::build(alloc, bank, start, count + ((below - 1) >> width))?;
-        Ok(EliasFano {
+        let (start, bits) = upper_of(first, count, below);
+        let upper = RankSel::over(bank, start, bits, directories);
+        EliasFano {
             upper,
             low,
             count: count as usize,
             width,
-        })
+        }
     }
 
     /// Number `i`, in at most 38 ticks.
     #[inline]
     fn number<L: Ledger>(&self, i: usize, steps: &mut Steps<L>) -> u64
-        requires { i < length (⟦<EliasFano<B> as Fields>⟧.items self.now) }
-        ensures value { result ≡ slice_index (⟦<EliasFano<B> as Fields>⟧.items self.now) i }
+        requires { i < length (⟦<EliasFano<B, D> as Fields>⟧.items self.now) }
+        ensures value { result ≡ slice_index (⟦<EliasFano<B, D> as Fields>⟧.items self.now) i }
         ensures counted { steps.old < steps.new }
         ensures cost { steps.new ≤ steps.old + 38 }
     {
@@ -107,10 +180,10 @@ impl<B: WordBank + Copy> EliasFano<B> {
     /// Number `i`, whose one stands at `place`, in at most two ticks.
     #[inline]
     fn number_of<L: Ledger>(&self, i: usize, place: u64, steps: &mut Steps<L>) -> u64
-        requires within { i < length (⟦<EliasFano<B> as Fields>⟧.items self.now) }
+        requires within { i < length (⟦<EliasFano<B, D> as Fields>⟧.items self.now) }
         requires place { place ≡ slice_index (ones_of self.now.upper.bits
             (number_at self.now.upper.first (B.words_of self.now.upper.bank))) i }
-        ensures value { result ≡ slice_index (⟦<EliasFano<B> as Fields>⟧.items self.now) i }
+        ensures value { result ≡ slice_index (⟦<EliasFano<B, D> as Fields>⟧.items self.now) i }
         ensures counted { steps.old ≤ steps.new }
         ensures cost { steps.new ≤ steps.old + 2 }
     {
@@ -121,10 +194,10 @@ impl<B: WordBank + Copy> EliasFano<B> {
     /// Number `i` with the place of its one, in at most 38 ticks.
     #[inline]
     pub fn cursor<L: Ledger>(&self, i: usize, steps: &mut Steps<L>) -> Cursor
-        requires { i < length (⟦<EliasFano<B> as Fields>⟧.items self.now) }
+        requires { i < length (⟦<EliasFano<B, D> as Fields>⟧.items self.now) }
         ensures cursor { IsCursor (ones_of self.now.upper.bits
             (number_at self.now.upper.first (B.words_of self.now.upper.bank)))
-            (⟦<EliasFano<B> as Fields>⟧.items self.now) i result }
+            (⟦<EliasFano<B, D> as Fields>⟧.items self.now) i result }
         ensures counted { steps.old < steps.new }
         ensures cost { steps.new ≤ steps.old + 38 }
     {
@@ -136,13 +209,13 @@ impl<B: WordBank + Copy> EliasFano<B> {
     /// Number `i + 1` with the place of its one, read on from those of number `i`, in at most 38 ticks.
     #[inline]
     pub fn next<L: Ledger>(&self, i: usize, at: Cursor, steps: &mut Steps<L>) -> Cursor
-        requires within { i + 1 < length (⟦<EliasFano<B> as Fields>⟧.items self.now) }
+        requires within { i + 1 < length (⟦<EliasFano<B, D> as Fields>⟧.items self.now) }
         requires at { IsCursor (ones_of self.now.upper.bits
             (number_at self.now.upper.first (B.words_of self.now.upper.bank)))
-            (⟦<EliasFano<B> as Fields>⟧.items self.now) i at }
+            (⟦<EliasFano<B, D> as Fields>⟧.items self.now) i at }
         ensures cursor { IsCursor (ones_of self.now.upper.bits
             (number_at self.now.upper.first (B.words_of self.now.upper.bank)))
-            (⟦<EliasFano<B> as Fields>⟧.items self.now) (i + 1) result }
+            (⟦<EliasFano<B, D> as Fields>⟧.items self.now) (i + 1) result }
         ensures counted { steps.old < steps.new }
         ensures cost { steps.new ≤ steps.old + 38 }
     {
@@ -153,10 +226,10 @@ impl<B: WordBank + Copy> EliasFano<B> {
 
     /// Numbers `i` and `i + 1`, in at most 76 ticks.
     pub fn pair<L: Ledger>(&self, i: usize, steps: &mut Steps<L>) -> (u64, u64)
-        requires { i + 1 < length (⟦<EliasFano<B> as Fields>⟧.items self.now) }
-        ensures first { result.0 ≡ slice_index (⟦<EliasFano<B> as Fields>⟧.items self.now) i }
+        requires { i + 1 < length (⟦<EliasFano<B, D> as Fields>⟧.items self.now) }
+        ensures first { result.0 ≡ slice_index (⟦<EliasFano<B, D> as Fields>⟧.items self.now) i }
         ensures second { result.1
-            ≡ slice_index (⟦<EliasFano<B> as Fields>⟧.items self.now) (i + 1) }
+            ≡ slice_index (⟦<EliasFano<B, D> as Fields>⟧.items self.now) (i + 1) }
         ensures counted { steps.old < steps.new }
         ensures cost { steps.new ≤ steps.old + 76 }
     {
@@ -168,7 +241,7 @@ impl<B: WordBank + Copy> EliasFano<B> {
     }
 }
 
-impl<B: WordBank + Copy> Fields for EliasFano<B> {
+impl<B: WordBank + Copy, D: WordBank> Fields for EliasFano<B, D> {
     ghost items = { λ e. sums_of e.width
         (ones_of e.upper.bits (number_at e.upper.first (B.words_of e.upper.bank)))
         (fields e.low.width e.low.len (drop e.low.first (B.words_of e.low.bank))) };

@@ -1,29 +1,12 @@
-use Rattle.std.proofs.Common.{◌≡◌, ◌∙◌, ◌<◌, ◌^◌, ◌-◌, ◌+◌, ◌*◌, ◌/◌, length, drop, sym, subst, ap, arith}
+use Rattle.std.proofs.Common.{◌≡◌, ◌∙◌, ◌<◌, ◌^◌, ◌+◌, length, drop, sym, subst, ap, arith}
 use Rattle.std.proofs.lemmas.List.Elements.{All-same}
-use Rattle.sx_spec.specs.Fields.{words_for, words_number, fields, low_width, upper_bits, ones_of}
+use Rattle.sx_spec.specs.Fields.{words_number, fields, low_width, upper_bits, ones_of}
 use Rattle.sx_fields.proofs.Places.{length-fields}
 use Rattle.sx_ranksel.specs.Directory.{number_at, rank_of}
 use Rattle.sx_ef.specs.Parts.{sums_of, low_size, low_part, upper_part, numbers_in}
 use Rattle.sx_ef.proofs.Numbers.{length-sums}
 use Rattle.sx_ef.proofs.Views.{upper_ones, numbers_are, list_sums, valid_ones, valid_small}
-use Rattle.sx_ef.proofs.Widths.{upper_few}
 use Rattle.sx_ef.proofs.view.EliasFano.over.Goals as goal
-
-pub overflow_add-start : goal.overflow_add-start
-overflow_add-start g c =
-    let width = c.low_bits-width.ensures.width in
-    let start : c.div_ceil.result ≡ low_size c.args.count c.args.below = c.div_ceil.ensures ∙ (λ j. words_for (c.args.count * (c.from.ensures ∙ width) j)) in
-    omega (arith, c.requires.within, c.words-words.ensures.len, c.words-words.type_inv)
-
-pub overflow_add-count : goal.overflow_add-count
-overflow_add-count g c =
-    let few = subst (λ w. c.args.count + (c.args.below - 1) / 2 ^ w < 3 * c.args.count) (sym c.low_bits-width.ensures.width) (upper_few c.args.count c.args.below c.requires.some c.requires.above) in
-    omega (arith, c.requires.few)
-
-pub build-requires-clause-few : goal.build-requires-clause-few
-build-requires-clause-few g c =
-    let few = subst (λ w. c.args.count + (c.args.below - 1) / 2 ^ w < 3 * c.args.count) (sym c.low_bits-width.ensures.width) (upper_few c.args.count c.args.below c.requires.some c.requires.above) in
-    omega (arith, c.requires.few)
 
 pub invariant_of-result : goal.invariant_of-result
 invariant_of-result g c =
@@ -31,13 +14,12 @@ invariant_of-result g c =
     let count = c.args.count in
     let below = c.args.below in
     let rest = drop c.args.first bank in
-    let u = c.in_ok-upper.upper in
+    let u = c.over-upper.result in
     let low = c.new-low.result in
     let width = c.low_bits-width.ensures.width in
-    let start : c.div_ceil.result ≡ low_size count below = c.div_ceil.ensures ∙ (λ j. words_for (count * (c.from.ensures ∙ width) j)) in
     let ones : ones_of u.bits (number_at u.first (g.B.WordBank.words_of u.bank)) ≡ ones_of (upper_bits count below) (number_at (c.args.first + low_size count below) bank) =
-    (λ j. ones_of (c.in_ok-upper.ensures.bits j) (number_at (c.in_ok-upper.ensures.first j) (g.B.WordBank.words_of (c.in_ok-upper.ensures.bank j))))
-    ∙ (λ j. ones_of (count + (below - 1) / 2 ^ width j) (number_at (c.args.first + start j) bank)) in
+    (λ j. ones_of (c.over-upper.ensures.bits j) (number_at (c.over-upper.ensures.first j) (g.B.WordBank.words_of (c.over-upper.ensures.bank j))))
+    ∙ (λ j. ones_of (c.upper_of-start.ensures.bits j) (number_at (c.upper_of-start.ensures.start j) bank)) in
     let lows : fields low.width low.len (drop low.first (g.B.WordBank.words_of low.bank)) ≡ fields (low_width count below) count rest = c.new-low.ensures.items ∙ ap (λ w. fields w count rest) width in
     let numbers : sums_of c.low_bits-width.result (ones_of u.bits (number_at u.first (g.B.WordBank.words_of u.bank))) (fields low.width low.len (drop low.first (g.B.WordBank.words_of low.bank))) ≡ numbers_in count below rest =
     (λ j. sums_of (width j) (ones j) (lows j)) ∙ numbers_are bank c.args.first count below c.requires.within in
@@ -62,13 +44,12 @@ returns-clause-items g c =
     let count = c.args.count in
     let below = c.args.below in
     let rest = drop c.args.first bank in
-    let u = c.in_ok-upper.upper in
+    let u = c.over-upper.result in
     let low = c.new-low.result in
     let width = c.low_bits-width.ensures.width in
-    let start : c.div_ceil.result ≡ low_size count below = c.div_ceil.ensures ∙ (λ j. words_for (count * (c.from.ensures ∙ width) j)) in
     let ones : ones_of u.bits (number_at u.first (g.B.WordBank.words_of u.bank)) ≡ ones_of (upper_bits count below) (number_at (c.args.first + low_size count below) bank) =
-    (λ j. ones_of (c.in_ok-upper.ensures.bits j) (number_at (c.in_ok-upper.ensures.first j) (g.B.WordBank.words_of (c.in_ok-upper.ensures.bank j))))
-    ∙ (λ j. ones_of (count + (below - 1) / 2 ^ width j) (number_at (c.args.first + start j) bank)) in
+    (λ j. ones_of (c.over-upper.ensures.bits j) (number_at (c.over-upper.ensures.first j) (g.B.WordBank.words_of (c.over-upper.ensures.bank j))))
+    ∙ (λ j. ones_of (c.upper_of-start.ensures.bits j) (number_at (c.upper_of-start.ensures.start j) bank)) in
     let lows : fields low.width low.len (drop low.first (g.B.WordBank.words_of low.bank)) ≡ fields (low_width count below) count rest = c.new-low.ensures.items ∙ ap (λ w. fields w count rest) width in
     (λ j. sums_of (width j) (ones j) (lows j)) ∙ numbers_are bank c.args.first count below c.requires.within
 
