@@ -21,9 +21,9 @@ pub(crate) struct Cursors {
 impl Cursors {
     /// Those of any node. At most 76 words are read.
     #[inline(always)]
-    pub(crate) fn at<B: WordBank + Copy, L: Ledger>(
-        left: &EliasFano<B>,
-        skip: &EliasFano<B>,
+    pub(crate) fn at<B: WordBank + Copy, D: WordBank, L: Ledger>(
+        left: &EliasFano<B, D>,
+        skip: &EliasFano<B, D>,
         node: usize,
         steps: &mut Steps<L>,
     ) -> Cursors
@@ -41,10 +41,10 @@ impl Cursors {
 
     /// Those of the node after the node at which they are. At most 76 words are read.
     #[inline(always)]
-    pub(crate) fn next<B: WordBank + Copy, L: Ledger>(
+    pub(crate) fn next<B: WordBank + Copy, D: WordBank, L: Ledger>(
         &self,
-        left: &EliasFano<B>,
-        skip: &EliasFano<B>,
+        left: &EliasFano<B, D>,
+        skip: &EliasFano<B, D>,
         node: usize,
         steps: &mut Steps<L>,
     ) -> Cursors

@@ -38,36 +38,36 @@ struct Signing {
 
 /// A distributor by a hollow trie of its delimiters that answers from a bank of words.
 #[derive(Drop)]
-pub struct HollowDistView<B: WordBank + Copy> {
+pub struct HollowDistView<B: WordBank + Copy, D: WordBank> {
     /// The sums of the numbers of leaves under the left children.
-    pub left: EliasFano<B>,
+    pub left: EliasFano<B, D>,
     /// The sums of the numbers of bits that are skipped.
-    pub skip: EliasFano<B>,
+    pub skip: EliasFano<B, D>,
     /// Gives a fragment of a string, with the tag of its node, the string's turn there.
     pub turns: FuncView<B>,
     /// How many delimiters there are.
     pub delimiters: u64,
     /// The nodes with most leaves, read beforehand.
-    top: WordsBuf,
+    top: D,
     ghost few: { delimiters < 2 ^ 32 },
     ghost lefts: { length (sums_read left) ≡ max 1 delimiters },
     ghost skips: { length (sums_read skip) ≡ max 1 delimiters },
-    ghost kept: { AreKept (gaps (sums_read left)) (gaps (sums_read skip)) top.words.items },
+    ghost kept: { AreKept (gaps (sums_read left)) (gaps (sums_read skip)) (D.words_of top) },
 }
 
-impl<B: WordBank + Copy> HollowDistView<B> {
+impl<B: WordBank + Copy> HollowDistView<B, WordsBuf> {
     /// The distributor by fewer than 2 to the power 32 delimiters, by the sums of its two lists, as
     /// many as delimiters, or one, and the function of its turns. No other call takes memory.
     ///
     /// # Errors
     /// Only for want of memory.
-    pub fn over(
+    pub fn build(
         alloc: Global,
-        left: EliasFano<B>,
-        skip: EliasFano<B>,
+        left: EliasFano<B, WordsBuf>,
+        skip: EliasFano<B, WordsBuf>,
         turns: FuncView<B>,
         delimiters: u64,
-    ) -> Result<HollowDistView<B>, AllocError>
+    ) -> Result<HollowDistView<B, WordsBuf>, AllocError>
         requires few { delimiters < 2 ^ 32 }
         requires left { length (sums_read left) ≡ max 1 delimiters }
         requires skip { length (sums_read skip) ≡ max 1 delimiters }
@@ -77,13 +77,38 @@ impl<B: WordBank + Copy> HollowDistView<B> {
         ensures delimiters { IfOk result (λ v. v.delimiters ≡ delimiters) }
     {
         let top = top_of(alloc, &left, &skip, delimiters.saturating_sub(1))?;
-        Ok(HollowDistView {
+        let top = WordsBuf::new(top);
+        Ok(HollowDistView::over(left, skip, turns, delimiters, top))
+    }
+}
+
+impl<B: WordBank + Copy, D: WordBank> HollowDistView<B, D> {
+    /// The distributor by fewer than 2 to the power 32 delimiters, by the sums of its two lists, as
+    /// many as delimiters, or one, the function of its turns, and with the words of nodes that are
+    /// kept.
+    pub fn over(
+        left: EliasFano<B, D>,
+        skip: EliasFano<B, D>,
+        turns: FuncView<B>,
+        delimiters: u64,
+        top: D,
+    ) -> HollowDistView<B, D>
+        requires few { delimiters < 2 ^ 32 }
+        requires left { length (sums_read left) ≡ max 1 delimiters }
+        requires skip { length (sums_read skip) ≡ max 1 delimiters }
+        requires kept { AreKept (gaps (sums_read left)) (gaps (sums_read skip)) (D.words_of top) }
+        ensures left { result.left ≡ left }
+        ensures skip { result.skip ≡ skip }
+        ensures turns { result.turns ≡ turns }
+        ensures delimiters { result.delimiters ≡ delimiters }
+    {
+        HollowDistView {
             left,
             skip,
             turns,
             delimiters,
-            top: WordsBuf::new(top),
-        })
+            top,
+        }
     }
 
     /// The block of a string of at least eight bits under a seed, with so many bits of a signature,

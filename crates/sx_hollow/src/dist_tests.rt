@@ -109,10 +109,10 @@ fn block_counted<L: Ledger>(
     ) else {
         return Ok(NO_SECTIONS);
     };
-    let view = HollowDistView::over(
+    let view = HollowDistView::build(
         alloc,
-        EliasFano::over(alloc, Words::new(left), lefts.body, count, lefts.below)?,
-        EliasFano::over(alloc, Words::new(skip), skips.body, count, skips.below)?,
+        EliasFano::build(alloc, Words::new(left), lefts.body, count, lefts.below)?,
+        EliasFano::build(alloc, Words::new(skip), skips.body, count, skips.below)?,
         FuncView::new(
             Words::new(turns),
             function.body,

@@ -12,8 +12,8 @@ use sx_steps::Steps;
 
 /// How far number `i + 1` of a list is above number `i`, or 0. At most 76 words are read.
 #[inline(always)]
-pub(crate) fn gap<B: WordBank + Copy, L: Ledger>(
-    sums: &EliasFano<B>,
+pub(crate) fn gap<B: WordBank + Copy, D: WordBank, L: Ledger>(
+    sums: &EliasFano<B, D>,
     i: usize,
     steps: &mut Steps<L>,
 ) -> u64

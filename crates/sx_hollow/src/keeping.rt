@@ -67,10 +67,10 @@ fn wait_for_both(
 
 /// The words of the first `most` nodes with so many leaves or more, row by row from the root on. At most 152 words are read
 /// for each.
-fn rows_from_root<B: WordBank + Copy, L: Ledger>(
+fn rows_from_root<B: WordBank + Copy, D: WordBank, L: Ledger>(
     alloc: Global,
-    left: &EliasFano<B>,
-    skip: &EliasFano<B>,
+    left: &EliasFano<B, D>,
+    skip: &EliasFano<B, D>,
     nodes: u64,
     most: usize,
     many: u64,
@@ -111,10 +111,10 @@ fn rows_from_root<B: WordBank + Copy, L: Ledger>(
 }
 
 /// What `top_of` makes, with a count of its own.
-fn top_counted<B: WordBank + Copy, L: Ledger>(
+fn top_counted<B: WordBank + Copy, D: WordBank, L: Ledger>(
     alloc: Global,
-    left: &EliasFano<B>,
-    skip: &EliasFano<B>,
+    left: &EliasFano<B, D>,
+    skip: &EliasFano<B, D>,
     nodes: u64,
     blank: Blank,
 ) -> Result<Vec<u64>, AllocError>
@@ -151,10 +151,10 @@ fn top_counted<B: WordBank + Copy, L: Ledger>(
 ///
 /// # Errors
 /// Only for want of memory.
-pub(crate) fn top_of<B: WordBank + Copy>(
+pub fn top_of<B: WordBank + Copy, D: WordBank>(
     alloc: Global,
-    left: &EliasFano<B>,
-    skip: &EliasFano<B>,
+    left: &EliasFano<B, D>,
+    skip: &EliasFano<B, D>,
     nodes: u64,
 ) -> Result<Vec<u64>, AllocError>
     requires few { nodes < 2 ^ 32 }
@@ -164,5 +164,5 @@ pub(crate) fn top_of<B: WordBank + Copy>(
         (λ v. AreKept (gaps (sums_read left.now)) (gaps (sums_read skip.now)) v.items) }
     ensures few { IfOk result (λ v. length v.items ≤ 2 * (nodes / 32)) }
 {
-    top_counted::<B, Brand>(alloc, left, skip, nodes, Blank::new(1))
+    top_counted::<B, D, Brand>(alloc, left, skip, nodes, Blank::new(1))
 }

@@ -17,8 +17,8 @@ fn kept(alloc: Global, left: &[u64], skip: &[u64]) -> Result<Option<usize>, Allo
     };
     let words = top_of(
         alloc,
-        &EliasFano::over(alloc, Words::new(left), lefts.body, LEAVES, lefts.below)?,
-        &EliasFano::over(alloc, Words::new(skip), skips.body, LEAVES, skips.below)?,
+        &EliasFano::build(alloc, Words::new(left), lefts.body, LEAVES, lefts.below)?,
+        &EliasFano::build(alloc, Words::new(skip), skips.body, LEAVES, skips.below)?,
         LEAVES - 1,
     )?;
     Ok(Some(words.len()))

@@ -13,6 +13,7 @@ mod view;
 mod walk;
 
 pub use dist::HollowDistView;
+pub use keeping::top_of;
 pub use lists::{HollowLists, hollow_lists};
 pub use view::HollowView;
 

@@ -6,7 +6,7 @@ ghost use Rattle.sx_hollow.specs.Tops.{AreKept, IsEntryOf};
 
 use crate::walk::Stand;
 use std::sync::ledger::Ledger;
-use sx_fields::bank::{WordBank, WordsBuf};
+use sx_fields::bank::WordBank;
 use sx_steps::Steps;
 
 /// The place of a node that isn't kept.
@@ -37,9 +37,13 @@ pub(crate) struct Entry {
 /// where the words are those of nodes of two lists. At most 2 words are read, and where it isn't kept,
 /// at most one.
 #[inline(always)]
-pub(crate) fn kept<L: Ledger>(top: &WordsBuf, at: &Stand, steps: &mut Steps<L>) -> Option<Entry>
+pub(crate) fn kept<D: WordBank, L: Ledger>(
+    top: &D,
+    at: &Stand,
+    steps: &mut Steps<L>,
+) -> Option<Entry>
     ensures node { IfSome result (λ e. e.node ≡ at.now.node) }
-    ensures numbers { (left : List ℕ) → (skip : List ℕ) → AreKept left skip top.now.words.items
+    ensures numbers { (left : List ℕ) → (skip : List ℕ) → AreKept left skip (D.words_of top.now)
         → IfSome result (IsEntryOf left skip) }
     ensures counted { steps.old ≤ steps.new }
     ensures cost { steps.new ≤ steps.old + 2 }

@@ -21,33 +21,33 @@ use sx_steps::Steps;
 
 /// A hollow trie that answers from a bank of words.
 #[derive(Drop)]
-pub struct HollowView<B: WordBank + Copy> {
+pub struct HollowView<B: WordBank + Copy, D: WordBank> {
     /// The sums of the numbers of leaves under the left children.
-    pub left: EliasFano<B>,
+    pub left: EliasFano<B, D>,
     /// The sums of the numbers of bits that are skipped.
-    pub skip: EliasFano<B>,
+    pub skip: EliasFano<B, D>,
     /// How many leaves there are.
     pub keys: u64,
     /// The nodes with most leaves, read beforehand.
-    top: WordsBuf,
+    top: D,
     ghost few: { keys < 2 ^ 32 },
     ghost lefts: { length (sums_read left) ≡ max 1 keys },
     ghost skips: { length (sums_read skip) ≡ max 1 keys },
-    ghost kept: { AreKept (gaps (sums_read left)) (gaps (sums_read skip)) top.words.items },
+    ghost kept: { AreKept (gaps (sums_read left)) (gaps (sums_read skip)) (D.words_of top) },
 }
 
-impl<B: WordBank + Copy> HollowView<B> {
+impl<B: WordBank + Copy> HollowView<B, WordsBuf> {
     /// The hollow trie of fewer than 2 to the power 32 keys, by the sums of its two lists: as many as
     /// keys, or one. No other call takes memory.
     ///
     /// # Errors
     /// Only for want of memory.
-    pub fn over(
+    pub fn build(
         alloc: Global,
-        left: EliasFano<B>,
-        skip: EliasFano<B>,
+        left: EliasFano<B, WordsBuf>,
+        skip: EliasFano<B, WordsBuf>,
         keys: u64,
-    ) -> Result<HollowView<B>, AllocError>
+    ) -> Result<HollowView<B, WordsBuf>, AllocError>
         requires few { keys < 2 ^ 32 }
         requires left { length (sums_read left) ≡ max 1 keys }
         requires skip { length (sums_read skip) ≡ max 1 keys }
@@ -56,12 +56,28 @@ impl<B: WordBank + Copy> HollowView<B> {
         ensures keys { IfOk result (λ v. v.keys ≡ keys) }
     {
         let top = top_of(alloc, &left, &skip, keys.saturating_sub(1))?;
-        Ok(HollowView {
+        Ok(HollowView::over(left, skip, keys, WordsBuf::new(top)))
+    }
+}
+
+impl<B: WordBank + Copy, D: WordBank> HollowView<B, D> {
+    /// The hollow trie of fewer than 2 to the power 32 keys, by the sums of its two lists: as many as
+    /// keys, or one, and with the words of nodes that are kept.
+    pub fn over(left: EliasFano<B, D>, skip: EliasFano<B, D>, keys: u64, top: D) -> HollowView<B, D>
+        requires few { keys < 2 ^ 32 }
+        requires left { length (sums_read left) ≡ max 1 keys }
+        requires skip { length (sums_read skip) ≡ max 1 keys }
+        requires kept { AreKept (gaps (sums_read left)) (gaps (sums_read skip)) (D.words_of top) }
+        ensures left { result.left ≡ left }
+        ensures skip { result.skip ≡ skip }
+        ensures keys { result.keys ≡ keys }
+    {
+        HollowView {
             left,
             skip,
             keys,
-            top: WordsBuf::new(top),
-        })
+            top,
+        }
     }
 
     /// The leaf at which the walk of a string ends: the rank of a key, and for any other string a

@@ -52,10 +52,10 @@ fn walk_counted<L: Ledger>(
     let (Ok(left), Ok(skip)) = (sums_check(lists.0, 0, count), sums_check(lists.1, 0, count)) else {
         return Ok(NO_LISTS);
     };
-    let view = HollowView::over(
+    let view = HollowView::build(
         alloc,
-        EliasFano::over(alloc, Words::new(lists.0), left.body, count, left.below)?,
-        EliasFano::over(alloc, Words::new(lists.1), skip.body, count, skip.below)?,
+        EliasFano::build(alloc, Words::new(lists.0), left.body, count, left.below)?,
+        EliasFano::build(alloc, Words::new(lists.1), skip.body, count, skip.below)?,
         keys,
     )?;
     Ok(view.answer(&BitView::key_bits(line), &mut steps))
