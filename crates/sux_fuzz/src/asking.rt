@@ -8,6 +8,7 @@ use crate::keys::MAX_LINE;
 use std::alloc::Global;
 use std::sync::ledger::Ledger;
 use sx_dump::{Dump, OpenFault, open_dump};
+use sx_fields::bank::WordsBuf;
 use sx_steps::Steps;
 use thiserror::Error;
 
@@ -47,7 +48,7 @@ pub enum Outcome {
 
 /// The most reads of the reply of a dump in these words to a line. There are fewer corrections than
 /// words.
-fn allowed(dump: &Dump<&Counting<'_>>, words: &[u64], line: &[u8]) -> u64
+fn allowed(dump: &Dump<&Counting<'_>, WordsBuf>, words: &[u64], line: &[u8]) -> u64
     requires { length line.now ≤ 8191 }
 {
     let signed = words.get(8).copied().unwrap_or(0);
@@ -57,7 +58,7 @@ fn allowed(dump: &Dump<&Counting<'_>>, words: &[u64], line: &[u8]) -> u64
 
 /// Asks a dump in these words a line.
 fn ask<L: Ledger>(
-    dump: &Dump<&Counting<'_>>,
+    dump: &Dump<&Counting<'_>, WordsBuf>,
     bank: &Counting<'_>,
     words: &[u64],
     line: &[u8],

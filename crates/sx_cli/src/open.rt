@@ -19,7 +19,7 @@ use std::alloc::Global;
 use sx_dump::{Dump, OpenFault, open_dump};
 use sx_edge::shelf::Shelf;
 use sx_edge::sink::Sink;
-use sx_fields::bank::Words;
+use sx_fields::bank::{Words, WordsBuf};
 use sx_spec::Status;
 use sx_text::messages::{check_message, no_dump_message};
 
@@ -88,7 +88,7 @@ pub fn check_dump<'a, E: Sink>(
     alloc: Global,
     file: &'a DumpFile,
     err: &mut E,
-) -> Result<Dump<Words<'a>>, Status>
+) -> Result<Dump<Words<'a>, WordsBuf>, Status>
     ensures opened { (name : Text) (files : Option Files)
         → IsFile name files file.now.words.items file.now.bytes
         → MatchResult result (λ d. IsOpened name files (dump_in d.bank.words.now))

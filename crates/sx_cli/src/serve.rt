@@ -14,7 +14,7 @@ use sx_dump::Dump;
 use sx_edge::line::{LineFault, LineReader, Step};
 use sx_edge::sink::Sink;
 use sx_edge::source::{Failed, Source};
-use sx_fields::bank::WordBank;
+use sx_fields::bank::{WordBank, WordsBuf};
 use sx_steps::Steps;
 use sx_text::buffer::TextBuffer;
 
@@ -56,7 +56,7 @@ fn write_held<O: Sink>(replies: &mut TextBuffer, ready: bool, out: &mut O) -> Re
 
 /// Puts the reply to a line behind the others.
 fn put_reply<B: WordBank + Copy, L: Ledger>(
-    dump: &Dump<B>,
+    dump: &Dump<B, WordsBuf>,
     line: &[u8],
     replies: &mut TextBuffer,
     steps: &mut Steps<L>,
@@ -87,7 +87,7 @@ fn finish<O: Sink>(replies: &mut TextBuffer, out: &mut O, served: Served) -> Ser
 /// Answers the lines of input by the dump in order, a number and a line feed for each. What is
 /// held of the answers is written before input is read, so that each is seen before the next wait.
 pub fn serve<B: WordBank + Copy, S: Source, O: Sink, L: Ledger>(
-    dump: &Dump<B>,
+    dump: &Dump<B, WordsBuf>,
     reader: &mut LineReader,
     replies: &mut TextBuffer,
     input: &mut S,

@@ -17,7 +17,7 @@ use std::alloc::Global;
 use sx_dump::Dump;
 use sx_edge::shelf::Shelf;
 use sx_edge::sink::{Sink, write_all};
-use sx_fields::bank::WordBank;
+use sx_fields::bank::{WordBank, WordsBuf};
 use sx_spec::Status;
 use sx_text::messages::opened_text;
 
@@ -33,7 +33,7 @@ pub enum Wanted {
 /// Writes the line on a dump to out.
 fn write_line<B: WordBank + Copy, O: Sink, E: Sink>(
     alloc: Global,
-    dump: &Dump<B>,
+    dump: &Dump<B, WordsBuf>,
     out: &mut O,
     err: &mut E,
 ) -> Status
@@ -53,7 +53,7 @@ fn write_line<B: WordBank + Copy, O: Sink, E: Sink>(
 
 /// Writes all that a dump holds to out.
 fn write_whole<B: WordBank + Copy, O: Sink, E: Sink>(
-    dump: &Dump<B>,
+    dump: &Dump<B, WordsBuf>,
     out: &mut O,
     err: &mut E,
 ) -> Status

@@ -1,6 +1,7 @@
 pub mod CorrectionWords
 pub mod Openings
 pub mod Replies
+pub mod RoomWords
 pub mod SumsOnes
 pub mod Sections
 pub mod Showing

@@ -28,8 +28,8 @@ use Rattle.sx_hollow.specs.declared.view.HollowView.{HollowView}
 use Rattle.sx_static.specs.Reading.{answers_by, function_read}
 use Rattle.sx_sections.specs.declared.header.Header.{Header}
 use Rattle.sx_sections.specs.declared.place.Place.{Place}
-use Rattle.sx_dump.specs.declared.hollow_dist.HollowDistributor.{HollowDistributor}
-use Rattle.sx_dump.specs.declared.zfast.ZfastDistributor.{ZfastDistributor}
+use Rattle.sx_distributors.specs.declared.hollow.HollowDistributor.{HollowDistributor}
+use Rattle.sx_distributors.specs.declared.zfast.ZfastDistributor.{ZfastDistributor}
 use Rattle.sx_zfast.specs.Maps.{map_read}
 use Rattle.sx_zfast.specs.Views.{corrected_by, nodes_read}
 use Rattle.sx_dump.specs.Opening.{IsOpened, dump_in}
@@ -116,7 +116,7 @@ module _ (words : List ℕ) (h : Header) (places : List Place) (is : IsOpened wo
       λ j. lcp2_reply (view.keys j) (block_size (view.bucket j)) (answers_are 0 v.offsets view.offsets j) (answers_are 1 v.codes view.codes j) (view.table.numbers j)
       (answers_are 3 v.escaped view.escaped j) (answers_are 4 v.prefixes view.prefixes j) bits
 
-  pub hollow_dist_place_is : {B : Type 0} {bank_of : Ghosts B} (v : HollowDistributor B bank_of) → IsHollowDistView words v → (bits : Bits)
+  pub hollow_dist_place_is : {B D : Type 0} {bank_of : Ghosts B} {dir_of : Ghosts D} (v : HollowDistributor B D bank_of dir_of) → IsHollowDistView words v → (bits : Bits)
       → hollow_dist_reply v.keys (block_size v.log_bucket) (gaps (sums_by v.blocks.left)) (gaps (sums_by v.blocks.skip)) (answers_by v.offsets h.seed h.plan.sig_bits)
       (answers_by v.blocks.turns h.seed h.plan.sig_bits) v.blocks.delimiters bits
       ≡ kind_reply HollowDist (dump_in words) bits
@@ -147,6 +147,6 @@ zfast_reads_are words v view bits =
 
 -- ---- by hollow tries
 
-pub hollow_place_is : (words : List ℕ) {B : Type 0} {bank_of : Ghosts B} (v : HollowView B bank_of) → IsHollowView words v → (bits : Bits)
+pub hollow_place_is : (words : List ℕ) {B D : Type 0} {bank_of : Ghosts B} {dir_of : Ghosts D} (v : HollowView B D bank_of dir_of) → IsHollowView words v → (bits : Bits)
     → walk_of (gaps (sums_by v.left)) (gaps (sums_by v.skip)) v.keys bits ≡ kind_reply Hollow (dump_in words) bits
 hollow_place_is words v view bits = λ j. walk_of (gaps (view.lefts.numbers j)) (gaps (view.skips.numbers j)) (view.keys j) bits

@@ -1,4 +1,5 @@
 pub mod Opening
 pub mod Replying
+pub mod Rooms
 pub mod Showing
 pub mod Viewing

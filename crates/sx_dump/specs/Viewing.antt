@@ -17,9 +17,10 @@ use Rattle.sx_spec.specs.Reply.{function_in, kept_numbers, numbers_of, section_a
 use Rattle.sx_static.specs.Viewing.{viewed}
 use Rattle.sx_static.specs.declared.view.FuncView.{FuncView}
 use Rattle.sx_dump.specs.Opening.{dump_in}
-use Rattle.sx_dump.specs.declared.hollow_dist.HollowDistributor.{HollowDistributor}
-use Rattle.sx_dump.specs.declared.zfast.ZfastDistributor.{ZfastDistributor}
+use Rattle.sx_distributors.specs.declared.hollow.HollowDistributor.{HollowDistributor}
+use Rattle.sx_distributors.specs.declared.zfast.ZfastDistributor.{ZfastDistributor}
 use Rattle.sx_zfast.specs.declared.corrected.Corrections.{Corrections}
+use Rattle.sx_zfast.specs.Largest.{largest}
 use Rattle.sx_zfast.specs.Views.{signatures_read}
 use Rattle.sx_dump.specs.declared.view.View.{View}
 use Rattle.sx_dump.specs.declared.view.View.TheVariants.{Func, Lcp, Lcp2, Hollow, HollowDist, Zfast}
@@ -38,13 +39,13 @@ pub record ReadsNumbers {B : Type 0} {bank_of : Ghosts B} (words : List ℕ) (i 
   pub width : p.width ≡ section_width (section_at (dump_in words) i)
 
 -- the numbers that an Elias-Fano list reads
-abbrev pub sums_by : {B : Type 0} {bank_of : Ghosts B} (e : EliasFano B bank_of) → List ℕ
+abbrev pub sums_by : {B D : Type 0} {bank_of : Ghosts B} {dir_of : Ghosts D} (e : EliasFano B D bank_of dir_of) → List ℕ
 sums_by {bank_of = bank_of} e =
     sums_of e.width (ones_of e.upper.bits (number_at e.upper.first (bank_of.words_of e.upper.bank)))
     (fields e.low.width e.low.len (drop e.low.first (bank_of.words_of e.low.bank)))
 
 -- they are those of section i of the dump in the words
-pub record ReadsSums {B : Type 0} {bank_of : Ghosts B} (words : List ℕ) (i : ℕ) (e : EliasFano B bank_of) : Type 0 where
+pub record ReadsSums {B D : Type 0} {bank_of : Ghosts B} {dir_of : Ghosts D} (words : List ℕ) (i : ℕ) (e : EliasFano B D bank_of dir_of) : Type 0 where
   pub numbers : sums_by e ≡ numbers_of (dump_in words) i
 
 -- they are those that the signed dump in the words keeps of its keys, each of the header's width
@@ -83,14 +84,14 @@ pub record IsLcp2View {B : Type 0} {bank_of : Ghosts B} (words : List ℕ) (v : 
   pub bucket : v.log_bucket ≡ (header_of words).plan.log_bucket
 
 -- the hollow trie is that of a dump of kind hollow in the words
-pub record IsHollowView {B : Type 0} {bank_of : Ghosts B} (words : List ℕ) (v : HollowView B bank_of) : Type 0 where
+pub record IsHollowView {B D : Type 0} {bank_of : Ghosts B} {dir_of : Ghosts D} (words : List ℕ) (v : HollowView B D bank_of dir_of) : Type 0 where
   pub kind : (header_of words).plan.kind ≡ HollowKind
   pub lefts : ReadsSums words 0 v.left
   pub skips : ReadsSums words 1 v.skip
   pub keys : v.keys ≡ (header_of words).keys
 
 -- the distributor is that of a dump of kind hollowdist in the words, with as many delimiters as the keys come to
-pub record IsHollowDistView {B : Type 0} {bank_of : Ghosts B} (words : List ℕ) (v : HollowDistributor B bank_of) : Type 0 where
+pub record IsHollowDistView {B D : Type 0} {bank_of : Ghosts B} {dir_of : Ghosts D} (words : List ℕ) (v : HollowDistributor B D bank_of dir_of) : Type 0 where
   pub kind : (header_of words).plan.kind ≡ HollowDistKind
   pub offsets : ReadsFunction words 0 v.offsets
   pub lefts : ReadsSums words 1 v.blocks.left
@@ -123,13 +124,17 @@ pub record IsZfastView {B : Type 0} {bank_of : Ghosts B} (words : List ℕ) (v :
   pub keys : v.keys ≡ (header_of words).keys
   pub bucket : v.log_bucket ≡ (header_of words).plan.log_bucket
 
+-- the length of the longest extent of the nodes of a dump of kind zfast in the words, 0 where there are none
+abbrev pub IsLongest : (words : List ℕ) → ℕ → Type 0
+IsLongest words longest = longest ≡ largest (numbers_of (dump_in words) 1)
+
 -- what answers is made from the sections of the dump in the words: a row for each kind
-pub record IsViewOf {B : Type 0} {bank_of : Ghosts B} (words : List ℕ) (view : View B bank_of) : Type 0 where
+pub record IsViewOf {B D : Type 0} {bank_of : Ghosts B} {dir_of : Ghosts D} (words : List ℕ) (view : View B D bank_of dir_of) : Type 0 where
   pub func : (values : FuncView B bank_of) → view ≡ Func values → IsFuncView words values
   pub lcp : (lcp : LcpView B bank_of) → view ≡ Lcp lcp → IsLcpView words lcp
   pub lcp2 : (lcp2 : Lcp2View B bank_of) → view ≡ Lcp2 lcp2 → IsLcp2View words lcp2
-  pub hollow : (hollow : HollowView B bank_of) → view ≡ Hollow hollow → IsHollowView words hollow
-  pub hollow_dist : (dist : HollowDistributor B bank_of) → view ≡ HollowDist dist → IsHollowDistView words dist
+  pub hollow : (hollow : HollowView B D bank_of dir_of) → view ≡ Hollow hollow → IsHollowView words hollow
+  pub hollow_dist : (dist : HollowDistributor B D bank_of dir_of) → view ≡ HollowDist dist → IsHollowDistView words dist
   pub zfast : (dist : ZfastDistributor B bank_of) → view ≡ Zfast dist → IsZfastView words dist
 
 -- whether what answers for a dump of the kind holds directories in memory

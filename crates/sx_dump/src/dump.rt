@@ -10,13 +10,12 @@ ghost use Rattle.sx_dump.specs.Opening.{IsOpened, dump_in};
 ghost use Rattle.sx_dump.specs.Replying.{kept_reads, place_kept, string_reads};
 ghost use Rattle.sx_dump.specs.Viewing.{IsFuncView, IsHollowDistView, IsHollowView, IsKeptView, IsLcp2View, IsLcpView, IsViewOf, IsZfastView};
 
-use crate::hollow_dist::HollowDistributor;
 use crate::view::{View, kept_of, view_of};
-use crate::zfast::ZfastDistributor;
 use std::alloc::{AllocError, Global};
 use std::sync::ledger::Ledger;
 use sx_bits::BitView;
-use sx_fields::bank::WordBank;
+use sx_distributors::{HollowDistributor, ZfastDistributor};
+use sx_fields::bank::{WordBank, WordsBuf};
 use sx_fields::packed::Packed;
 use sx_hollow::HollowView;
 use sx_lcp::{Lcp2View, LcpView};
@@ -31,12 +30,12 @@ use sx_steps::Steps;
 
 /// A dump that answers from a bank of its words.
 #[derive(Drop)]
-pub struct Dump<B: WordBank + Copy> {
+pub struct Dump<B: WordBank + Copy, D: WordBank> {
     pub bank: B,
     pub(crate) header: Header,
     /// Where its sections stand.
     pub(crate) places: Places,
-    pub(crate) view: View<B>,
+    pub(crate) view: View<B, D>,
     /// What is kept of the signatures of its keys, where it is signed.
     pub(crate) kept: Option<Packed<B>>,
     ghost opened: { IsOpened (B.words_of bank) header places.items },
@@ -44,7 +43,7 @@ pub struct Dump<B: WordBank + Copy> {
     ghost numbers: { IsKeptView (B.words_of bank) kept },
 }
 
-impl<B: WordBank + Copy> Dump<B> {
+impl<B: WordBank + Copy> Dump<B, WordsBuf> {
     /// The dump in a bank of words that were opened.
     ///
     /// # Errors
@@ -63,7 +62,9 @@ impl<B: WordBank + Copy> Dump<B> {
             kept,
         })
     }
+}
 
+impl<B: WordBank + Copy, D: WordBank> Dump<B, D> {
     /// What the dump holds.
     pub fn kind(&self) -> Kind
         ensures { result ≡ (dump_in (B.words_of self.now.bank)).header.plan.kind }
@@ -193,7 +194,7 @@ impl<B: WordBank + Copy> Dump<B> {
     /// string. A signature is made only where a place is to be checked.
     fn reply_by_hollow<L: Ledger>(
         &self,
-        hollow: &HollowView<B>,
+        hollow: &HollowView<B, D>,
         key: &BitView<'_>,
         steps: &mut Steps<L>,
     ) -> Option<u64>
@@ -215,7 +216,7 @@ impl<B: WordBank + Copy> Dump<B> {
     /// the string and 16.
     fn reply_by_hollow_dist<L: Ledger>(
         &self,
-        dist: &HollowDistributor<B>,
+        dist: &HollowDistributor<B, D>,
         key: &BitView<'_>,
         steps: &mut Steps<L>,
     ) -> Option<u64>

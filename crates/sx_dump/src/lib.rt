@@ -3,13 +3,16 @@
 
 mod bare;
 mod dump;
-mod hollow_dist;
 mod open;
+mod rooms;
 mod show;
+mod sums;
 mod view;
-mod zfast;
 
 pub use bare::holds_directories;
 pub use dump::Dump;
 pub use open::{OpenFault, open_dump};
+pub use rooms::TrieRooms;
+pub use sx_ranksel::directories::Directories;
 pub use sx_sections::fault::MAX_BYTES;
+pub use view::longest_extent;

@@ -9,7 +9,7 @@ ghost use Rattle.sx_dump.specs.Opening.{IsFault, IsRefused, dump_in, opened_word
 
 use crate::dump::Dump;
 use std::alloc::Global;
-use sx_fields::bank::WordBank;
+use sx_fields::bank::{WordBank, WordsBuf};
 use sx_kinds::offer;
 use sx_sections::open::open_offered;
 use thiserror::Error;
@@ -39,7 +39,7 @@ pub fn open_dump<B: WordBank + Copy>(
     words: &[u64],
     bytes: u64,
     bank: B,
-) -> Result<Dump<B>, OpenFault>
+) -> Result<Dump<B, WordsBuf>, OpenFault>
     requires size { length words.now ≡ div_ceil bytes 8 }
     requires bank { B.words_of bank ≡ words.now }
     ensures found { IfOk result

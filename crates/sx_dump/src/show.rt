@@ -391,7 +391,7 @@ fn show_places<B: WordBank + Copy, O: Sink, L: Ledger>(
     Ok(())
 }
 
-impl<B: WordBank + Copy> Dump<B> {
+impl<B: WordBank + Copy, D: WordBank> Dump<B, D> {
     /// Writes the dump as text: nine lines of its header, and a line for each of its sections.
     /// Behind that of a function comes one for each chunk, and one for each cell; behind that of a
     /// list of either sort one for each number; of each there are fewer than 2 to the power 32. At most 4,096

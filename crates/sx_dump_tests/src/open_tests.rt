@@ -7,7 +7,7 @@ use std::marker::Brand;
 use std::sync::ledger::{Blank, Ledger};
 use std::test::Fail;
 use sx_dump::{Dump, OpenFault, open_dump};
-use sx_fields::bank::{WordBank, Words};
+use sx_fields::bank::{WordBank, Words, WordsBuf};
 use sx_memory::sink::MemSink;
 use sx_sig::Kind;
 use sx_steps::Steps;
@@ -178,7 +178,11 @@ fn changed(alloc: Global, i: usize, word: u64) -> u8
     changed_in(alloc, &EMPTY, i, word)
 }
 
-fn counted<B: WordBank + Copy, L: Ledger>(dump: &Dump<B>, line: &[u8], blank: Blank) -> i128
+fn counted<B: WordBank + Copy, L: Ledger>(
+    dump: &Dump<B, WordsBuf>,
+    line: &[u8],
+    blank: Blank,
+) -> i128
     requires name { blank.name ≡ L.name }
     requires parts { blank.parts ≡ L.parts }
     requires some { 0 < blank.parts }
@@ -188,7 +192,7 @@ fn counted<B: WordBank + Copy, L: Ledger>(dump: &Dump<B>, line: &[u8], blank: Bl
     dump.reply(line, &mut steps)
 }
 
-fn reply<B: WordBank + Copy>(dump: &Dump<B>, line: &[u8]) -> i128
+fn reply<B: WordBank + Copy>(dump: &Dump<B, WordsBuf>, line: &[u8]) -> i128
     requires { length line.now ≤ 8191 }
 {
     counted::<B, Brand>(dump, line, Blank::new(1))

@@ -9,7 +9,7 @@ use std::cell::Cell;
 use std::marker::Brand;
 use std::sync::ledger::{Blank, Ledger};
 use sx_dump::{Dump, open_dump};
-use sx_fields::bank::{WordBank, Words};
+use sx_fields::bank::{WordBank, Words, WordsBuf};
 use sx_steps::Steps;
 
 /// The dump of kind `lcp2` of the keys a, b, c and d, in blocks of two.
@@ -69,7 +69,11 @@ impl WordBank for Counting<'_> {
 }
 
 /// The reply of a dump to a line, under a fresh count of steps.
-fn reply_under<B: WordBank + Copy, L: Ledger>(dump: &Dump<B>, line: &[u8], blank: Blank) -> i128
+fn reply_under<B: WordBank + Copy, L: Ledger>(
+    dump: &Dump<B, WordsBuf>,
+    line: &[u8],
+    blank: Blank,
+) -> i128
     requires name { blank.name ≡ L.name }
     requires parts { blank.parts ≡ L.parts }
     requires some { 0 < blank.parts }

@@ -15,7 +15,7 @@ use std::alloc::{AllocError, Global};
 use std::sync::ledger::Ledger;
 use sx_bits::BitView;
 use sx_dump::{Dump, OpenFault, open_dump};
-use sx_fields::bank::{WordBank, Words};
+use sx_fields::bank::{WordBank, Words, WordsBuf};
 use sx_kinds::kinds::{uses_buckets, uses_handles};
 use sx_spec::{Kind, Method, Plan};
 use sx_steps::Steps;
@@ -56,7 +56,7 @@ pub(crate) fn default_plan(kind: Kind) -> Plan
 
 /// Asks the dump the numbers from one on, so many, in eight digits.
 fn ask<B: WordBank + Copy, L: Ledger>(
-    dump: &Dump<B>,
+    dump: &Dump<B, WordsBuf>,
     first: u32,
     count: u32,
     steps: &mut Steps<L>,

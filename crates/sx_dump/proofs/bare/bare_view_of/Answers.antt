@@ -8,7 +8,7 @@ pub function_at-requires-clause-function : goal.function_at-requires-clause-func
 function_at-requires-clause-function g c =
     let words = g.B.WordBank.words_of c.args.bank in
     let o = c.args.opened.now in
-    let is = c.requires in
+    let is = c.requires.opened in
     function_there words o.header o.places.items is 0 _ _ _ _ (func_values words o.header o.places.items is (kind_is words o.header o.places.items is Func c.in-Func.is))
 
 pub returns-in-Func-clause-view : goal.returns-in-Func-clause-view
@@ -16,7 +16,7 @@ returns-in-Func-clause-view g c =
     let words = g.B.WordBank.words_of c.args.bank in
     let o = c.args.opened.now in
     let view : IsFuncView words c.function_at.result = record {
-      kind = kind_is words o.header o.places.items c.requires Func c.in-Func.is;
+      kind = kind_is words o.header o.places.items c.requires.opened Func c.in-Func.is;
       values = c.function_at.ensures;
     } in
     record {

@@ -2,6 +2,7 @@ use Rattle.std.proofs.Common.{length, ap, sym, subst, ◌∙◌}
 use Rattle.sx_spec_kinds.specs.declared.Kind.TheVariants.{Zfast}
 use Rattle.sx_spec.specs.Kinds.{delimiter_count}
 use Rattle.sx_spec.specs.Layout.{Header as HeaderOf}
+use Rattle.sx_zfast.specs.Largest.{largest}
 use Rattle.sx_dump.specs.Viewing.{ReadsCorrections, ReadsFunction, ReadsNumbers, numbers_by}
 use Rattle.sx_dump.proofs.Sections.{kind_is}
 use Rattle.sx_dump.proofs.ZfastSections.{afters_are, afters_there, blocks_beside, blocks_there, codes_there, extents_are, extents_there, few_delimiters, firsts_are, firsts_there, handles_there, marks_are, marks_there, marks_width, middles_are, middles_there, offsets_there, signatures_there}
@@ -132,6 +133,9 @@ new-blocks-requires-clause-narrow_afters g c =
     let words = g.B.WordBank.words_of c.args.bank in
     let o = c.args.opened.now in
     (afters_are words o.header o.places.items c.requires.opened c.requires.kind c.list_at-afters.result c.delimiter_count-delimiters.result c.delimiter_count-delimiters.ensures.value c.list_at-afters.ensures).1
+
+pub new-blocks-requires-clause-longest : goal.new-blocks-requires-clause-longest
+new-blocks-requires-clause-longest g c = c.requires.longest ∙ ap largest (sym c.list_at-extents.ensures.numbers)
 
 pub returns : goal.returns
 returns g c =

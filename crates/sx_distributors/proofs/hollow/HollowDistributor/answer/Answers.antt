@@ -1,20 +1,14 @@
 use Rattle.std.proofs.Common.{◌≡◌, ℕ, List, Option, Some, None, refl, ap, ◌∙◌}
 use Rattle.sx_bits.specs.Views.{bits_of}
-use Rattle.sx_spec_strings.specs.Bits.{Bits, tagged}
+use Rattle.sx_spec_strings.specs.Bits.{Bits}
 use Rattle.sx_spec_kinds.specs.Blocks.{block_size, reply_in}
 use Rattle.sx_spec_kinds.specs.HollowDistributor.{hollow_block, hollow_dist_reply}
-use Rattle.sx_spec.specs.declared.Signature.{Signature}
 use Rattle.sx_spec.specs.Reply.{gaps}
-use Rattle.sx_spec.specs.Signature.{signature}
 use Rattle.sx_spec.specs.StaticFunction.{value_of}
 use Rattle.sx_hollow.specs.Views.{sums_read}
 use Rattle.sx_static.specs.Reading.{answers_by, function_read}
-use Rattle.sx_dump.proofs.hollow_dist.HollowDistributor.answer.Goals as goal
-
--- a string's own signature is that of the string without a tag
-untagged : (seed sig_bits : ℕ) (x : Bits) (sig : Signature) → sig ≡ signature seed sig_bits (tagged None x) → sig ≡ signature seed sig_bits x
-unfolding tagged
-untagged seed sig_bits x sig signs = signs
+use Rattle.sx_distributors.proofs.Untagged.{untagged}
+use Rattle.sx_distributors.proofs.hollow.HollowDistributor.answer.Goals as goal
 
 -- the reply is the place of the offset in the block, if there is one
 dist_is : (n b : ℕ) (left skip : List ℕ) (offsets turns : Bits → ℕ) (count : ℕ) (x : Bits) (offset : ℕ) (block reply : Option ℕ)

@@ -21,11 +21,11 @@ use sx_steps::Steps;
 
 /// A distributor by a hollow trie of delimiters, that answers from a bank of words.
 #[derive(Drop)]
-pub struct HollowDistributor<B: WordBank + Copy> {
+pub struct HollowDistributor<B: WordBank + Copy, D: WordBank> {
     /// Gives a key its offset in its block.
     pub offsets: FuncView<B>,
     /// Gives a string its block.
-    pub blocks: HollowDistView<B>,
+    pub blocks: HollowDistView<B, D>,
     /// How many keys there are.
     pub keys: u64,
     /// The binary logarithm of the number of keys of a block.
@@ -33,14 +33,14 @@ pub struct HollowDistributor<B: WordBank + Copy> {
     ghost bucket: { log_bucket ≤ 12 },
 }
 
-impl<B: WordBank + Copy> HollowDistributor<B> {
+impl<B: WordBank + Copy, D: WordBank> HollowDistributor<B, D> {
     /// The distributor of so many keys in blocks of 2 to the power `log_bucket`, which is at most 12.
     pub fn new(
         offsets: FuncView<B>,
-        blocks: HollowDistView<B>,
+        blocks: HollowDistView<B, D>,
         keys: u64,
         log_bucket: u32,
-    ) -> HollowDistributor<B>
+    ) -> HollowDistributor<B, D>
         requires { log_bucket ≤ 12 }
         ensures offsets { result.offsets ≡ offsets }
         ensures blocks { result.blocks ≡ blocks }
