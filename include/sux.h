@@ -1,8 +1,8 @@
 /* Dumps of `sux`, built from keys in memory, opened where their words lie, and asked.
  *
- * Nothing is kept between calls: the words of a dump, its handle and the lines are the caller's, and
- * there is nothing to free. Only sux_build takes memory, from malloc, and it gives all of it back.
- * Threads may share one open handle to ask.
+ * Nothing is kept between calls: the words of a dump, its handle, the room beside it and the lines are
+ * the caller's, and there is nothing to free. Only sux_build, and sux_open of a hollow trie, take memory,
+ * from malloc, and they give all of it back. Threads may share one open handle to ask.
  *
  * What a caller owes, and no proof covers:
  * - A pointer and a count name that many elements that may be read (or written, where the pointer is
@@ -13,6 +13,8 @@
  *   stay where and as they are while the handle is used. Asking reads without tests what sux_open
  *   has tested, so words that change behind it make reads out of bounds possible: where another
  *   process may write or shorten a mapped file, copy it first.
+ * - So does the room that sux_open has filled for a hollow trie. It is given to one handle and its
+ *   copies.
  * - A handle begins as SUX_DUMP_CLOSED, and only sux_open writes it. It may be copied.
  * - Words are read as the machine keeps them: lowest byte first, as the bytes of a dump are.
  */
@@ -34,12 +36,11 @@ enum sux_status {
     SUX_BAD_COUNT = 2,  /* not as many words, places, values or seeds as there have to be */
     SUX_NO_NUMBER = 3,  /* the dump knows no number for the line */
     SUX_NO_DUMP = 4,    /* a check of the words fails, or the handle isn't open */
-    SUX_NOT_SERVED = 5, /* a dump of kind hollow or hollowdist, which isn't asked in process */
     SUX_BAD_KEY = 6,    /* a key breaks a rule */
     SUX_BAD_PLAN = 7,   /* no such kind or method, or an option out of its range or not the kind's */
     SUX_NO_SEED = 8,    /* no seed works */
-    SUX_NO_ROOM = 9,    /* the dump has more words than there is room for */
-    SUX_NO_MEMORY = 10  /* sux_build finds no memory */
+    SUX_NO_ROOM = 9,    /* there are more words than there is room for */
+    SUX_NO_MEMORY = 10  /* no memory is found */
 };
 
 /* the code of a dump's kind */
@@ -79,20 +80,41 @@ typedef struct sux_found {
     sux_header header;
     size_t count;
     sux_place places[11];
+    uint32_t longest;
 } sux_found;
+
+/* words in the caller's room */
+typedef struct sux_part {
+    const uint64_t *words;
+    size_t count;
+} sux_part;
+
+typedef struct sux_rooms {
+    sux_part left_directory;
+    sux_part left_groups;
+    sux_part left_places;
+    sux_part skip_directory;
+    sux_part skip_groups;
+    sux_part skip_places;
+    sux_part top;
+} sux_rooms;
 
 typedef struct sux_dump {
     const uint64_t *words;
     size_t word_count;
+    sux_rooms rooms;
     sux_found found;
     bool opened;
 } sux_dump;
 
-/* memory for the pointer of a handle that isn't open, which must not be null */
+/* memory for the pointers of a handle that isn't open, which must not be null */
 static const uint64_t sux_no_words[1] = {0};
 
 /* a handle that isn't open */
-#define SUX_DUMP_CLOSED { sux_no_words, 0, { { 0, 0, 0, 0, 0, 0, 0, 0 }, 0, { { 0, 0, 0, 0, 0, 0 } } }, false }
+#define SUX_NO_PART { sux_no_words, 0 }
+#define SUX_NO_ROOMS { SUX_NO_PART, SUX_NO_PART, SUX_NO_PART, SUX_NO_PART, SUX_NO_PART, SUX_NO_PART, SUX_NO_PART }
+#define SUX_NOTHING_FOUND { { 0, 0, 0, 0, 0, 0, 0, 0 }, 0, { { 0, 0, 0, 0, 0, 0 } }, 0 }
+#define SUX_DUMP_CLOSED { sux_no_words, 0, SUX_NO_ROOMS, SUX_NOTHING_FOUND, false }
 
 /* a line: `size` bytes at `bytes`, without the line feed. The pointer is not null, with 0 bytes either */
 typedef struct sux_line {
@@ -140,19 +162,24 @@ typedef struct sux_told {
 /* Opens the dump that a file of so many bytes is; `words` are those bytes, eight a word, and the last
  * one filled up with zero bytes, as a mapped file's is. Makes every check of docs/FORMAT.md.
  *
+ * A dump of kind hollow or hollowdist is answered by directories of its lists too, which are put to the
+ * front of `room`, and stay there while the handle is used. Other dumps want no room, so `room` may be
+ * null with the count 0.
+ *
  * SUX_DONE: the handle is open, and stands for the one dump that the bytes are.
  * SUX_NO_DUMP: `check` is the number of the first check that fails; any other status leaves it.
- * SUX_NOT_SERVED: the bytes pass every check, and are a dump of kind hollow or hollowdist.
+ * SUX_NO_ROOM: the bytes pass every check, and `wanted` words of room are wanted, more than
+ * `room_count`; any other status leaves `wanted`. SUX_NO_MEMORY: they pass every check.
  * SUX_BAD_COUNT: `count` isn't bytes / 8, rounded up.
  * With any status but SUX_DONE the handle isn't open, also where it was before. */
-uint8_t sux_open(const uint64_t *words, size_t count, uint64_t bytes, sux_dump *dump, uint8_t *check);
+uint8_t sux_open(const uint64_t *words, size_t count, uint64_t bytes, uint64_t *room, size_t room_count,
+                 sux_dump *dump, uint8_t *check, uint64_t *wanted);
 
 /* The reply to a line of `length` bytes, without its line feed: what `sux query` prints for it.
  *
  * SUX_DONE: `value` is the number; any other status leaves it.
  * SUX_NO_NUMBER (where `sux query` prints -1), SUX_TOO_LONG, SUX_NO_DUMP.
- * Each call makes a view of the dump anew. Of kind zfast that looks through the lengths of all its
- * nodes, so ask many lines by one call of sux_replies. */
+ * Each call makes a view of the dump anew, so many lines are asked sooner by one call of sux_replies. */
 uint8_t sux_reply(const sux_dump *dump, const uint8_t *line, size_t length, uint64_t *value);
 
 /* The replies to lines, in order: statuses[i] is what sux_reply would say of lines[i], and values[i]
@@ -202,10 +229,12 @@ SUX_LAYOUT("sux_place", sizeof(sux_place) == 40 && offsetof(sux_place, width) ==
                             && offsetof(sux_place, count) == 8 && offsetof(sux_place, after) == 32);
 SUX_LAYOUT("sux_header", sizeof(sux_header) == 32 && offsetof(sux_header, keys) == 8
                              && offsetof(sux_header, kind) == 28 && offsetof(sux_header, method) == 29);
-SUX_LAYOUT("sux_found", sizeof(sux_found) == 480 && offsetof(sux_found, count) == 32
-                            && offsetof(sux_found, places) == 40);
-SUX_LAYOUT("sux_dump", sizeof(sux_dump) == 504 && offsetof(sux_dump, word_count) == 8
-                           && offsetof(sux_dump, found) == 16 && offsetof(sux_dump, opened) == 496);
+SUX_LAYOUT("sux_found", sizeof(sux_found) == 488 && offsetof(sux_found, count) == 32
+                            && offsetof(sux_found, places) == 40 && offsetof(sux_found, longest) == 480);
+SUX_LAYOUT("sux_rooms", sizeof(sux_rooms) == 112 && offsetof(sux_rooms, top) == 96);
+SUX_LAYOUT("sux_dump", sizeof(sux_dump) == 624 && offsetof(sux_dump, word_count) == 8
+                           && offsetof(sux_dump, rooms) == 16 && offsetof(sux_dump, found) == 128
+                           && offsetof(sux_dump, opened) == 616);
 SUX_LAYOUT("sux_line", sizeof(sux_line) == 16 && offsetof(sux_line, size) == 8);
 SUX_LAYOUT("sux_plan", sizeof(sux_plan) == 20 && offsetof(sux_plan, kind) == 16
                            && offsetof(sux_plan, method) == 17);

@@ -58,6 +58,25 @@ static bool ask_all(const sux_dump *dump, FILE *lines) {
     return all;
 }
 
+/* opens the dump in these words; `room` gets memory for what a hollow trie is answered by beside them */
+static uint8_t open_dump(const uint64_t *words, uint64_t bytes, sux_dump *dump, uint64_t **room) {
+    size_t count = (size_t)((bytes + 7) / 8);
+    uint8_t check = 0;
+    uint64_t wanted = 0;
+    uint8_t status = sux_open(words, count, bytes, NULL, 0, dump, &check, &wanted);
+    if (status == SUX_NO_ROOM) {
+        *room = malloc((size_t)wanted * sizeof **room);
+        if (*room == NULL) {
+            return SUX_NO_MEMORY;
+        }
+        status = sux_open(words, count, bytes, *room, (size_t)wanted, dump, &check, &wanted);
+    }
+    if (status == SUX_NO_DUMP) {
+        fprintf(stderr, "check %d fails\n", check);
+    }
+    return status;
+}
+
 int main(int count, char **names) {
     if (count != 3) {
         fprintf(stderr, "usage: ask DUMP LINES\n");
@@ -69,15 +88,11 @@ int main(int count, char **names) {
         return 5;
     }
     sux_dump dump = SUX_DUMP_CLOSED;
-    uint8_t check = 0;
-    uint8_t status = sux_open(words, (size_t)((bytes + 7) / 8), bytes, &dump, &check);
-    if (status == SUX_NO_DUMP) {
-        fprintf(stderr, "%s: check %d fails\n", names[1], check);
-        return 4;
-    }
+    uint64_t *room = NULL;
+    uint8_t status = open_dump(words, bytes, &dump, &room);
     if (status != SUX_DONE) {
-        fprintf(stderr, "%s: a dump of a kind that isn't served in process\n", names[1]);
-        return 4;
+        fprintf(stderr, "%s: not opened, status %d\n", names[1], status);
+        return status == SUX_NO_DUMP ? 4 : 5;
     }
     FILE *lines = fopen(names[2], "rb");
     if (lines == NULL) {
@@ -86,5 +101,6 @@ int main(int count, char **names) {
     }
     bool all = ask_all(&dump, lines);
     fclose(lines);
+    free(room);
     return all && fflush(stdout) == 0 ? 0 : 1;
 }

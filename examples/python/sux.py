@@ -24,11 +24,16 @@ class Header(c.Structure):
 
 
 class Found(c.Structure):
-    _fields_ = [("header", Header), ("count", c.c_size_t), ("places", Place * 11)]
+    _fields_ = [("header", Header), ("count", c.c_size_t), ("places", Place * 11), ("longest", c.c_uint32)]
+
+
+class Part(c.Structure):
+    _fields_ = [("words", c.POINTER(c.c_uint64)), ("count", c.c_size_t)]
 
 
 class Handle(c.Structure):
-    _fields_ = [("words", c.POINTER(c.c_uint64)), ("word_count", c.c_size_t), ("found", Found), ("opened", c.c_bool)]
+    _fields_ = [("words", c.POINTER(c.c_uint64)), ("word_count", c.c_size_t), ("rooms", Part * 7), ("found", Found),
+                ("opened", c.c_bool)]
 
 
 class Line(c.Structure):
@@ -54,7 +59,7 @@ class Told(c.Structure):
 
 
 # as include/sux.h has them
-assert c.sizeof(Handle) == 504 and Handle.opened.offset == 496
+assert c.sizeof(Handle) == 624 and Handle.opened.offset == 616
 assert c.sizeof(Plan) == 20 and c.sizeof(Told) == 296 and Told.failures.offset == 32
 
 
@@ -70,7 +75,7 @@ def load(name):
     """The library in this file."""
     calls = c.CDLL(name)
     words, numbers, lines, marks = (c.POINTER(kind) for kind in (c.c_uint64, c.c_uint64, Line, c.c_uint8))
-    calls.sux_open.argtypes = [words, c.c_size_t, c.c_uint64, c.POINTER(Handle), marks]
+    calls.sux_open.argtypes = [words, c.c_size_t, c.c_uint64, words, c.c_size_t, c.POINTER(Handle), marks, numbers]
     calls.sux_replies.argtypes = [c.POINTER(Handle), lines, c.c_size_t, numbers, c.c_size_t, marks, c.c_size_t]
     calls.sux_keys.argtypes = [c.POINTER(Handle)]
     calls.sux_build.argtypes = [lines, c.c_size_t, numbers, c.c_size_t, c.POINTER(Plan), numbers, c.c_size_t, words,
@@ -104,9 +109,14 @@ class Dump:
         self.calls = calls
         # the handle points into these words
         self.words, size = mapped_words(name)
-        self.handle = Handle(words=self.words, word_count=0, opened=False)
-        check = c.c_uint8()
-        status = calls.sux_open(self.words, (size + 7) // 8, size, self.handle, check)
+        # no pointer of a handle is null, of one that isn't open either
+        self.handle = Handle(self.words, 0, (Part * 7)(*7 * [(self.words, 0)]), Found(), False)
+        check, wanted, status = c.c_uint8(), c.c_uint64(), NO_ROOM
+        while status == NO_ROOM:
+            # beside a hollow trie, which tells how much it takes; the handle points into it too
+            self.room = (c.c_uint64 * wanted.value)()
+            status = calls.sux_open(self.words, (size + 7) // 8, size, self.room, len(self.room), self.handle, check,
+                                    wanted)
         if status != DONE:
             raise Refused(status, f"check {check.value}")
 

@@ -6,5 +6,6 @@ pub mod Headers
 pub mod KeyFaults
 pub mod Places
 pub mod Plans
+pub mod Rooms
 pub mod Told
 pub mod Verdicts

@@ -52,7 +52,11 @@ impl Answer {
 
 /// What a dump answers a line, within the reads of its reply.
 #[inline(always)]
-fn ask_counted<L: Ledger>(dump: &Dump<Words<'_>>, line: &[u8], steps: &mut Steps<L>) -> Answer
+fn ask_counted<L: Ledger>(
+    dump: &Dump<Words<'_>, Words<'_>>,
+    line: &[u8],
+    steps: &mut Steps<L>,
+) -> Answer
     ensures value { result ≡ answer_for (dump_in dump.now.bank.words.now) line.now }
     ensures cost { steps.new ≤ steps.old + reads (dump_in dump.now.bank.words.now) line.now }
 {
@@ -67,7 +71,7 @@ fn ask_counted<L: Ledger>(dump: &Dump<Words<'_>>, line: &[u8], steps: &mut Steps
 
 /// The same, under a count of its own.
 #[inline(always)]
-fn ask_under<L: Ledger>(dump: &Dump<Words<'_>>, line: &[u8], blank: Blank) -> Answer
+fn ask_under<L: Ledger>(dump: &Dump<Words<'_>, Words<'_>>, line: &[u8], blank: Blank) -> Answer
     requires name { blank.name ≡ L.name }
     requires parts { blank.parts ≡ L.parts }
     requires some { 0 < blank.parts }
@@ -79,7 +83,7 @@ fn ask_under<L: Ledger>(dump: &Dump<Words<'_>>, line: &[u8], blank: Blank) -> An
 
 /// What a dump answers a line.
 #[inline(always)]
-pub(crate) fn ask(dump: &Dump<Words<'_>>, line: &[u8]) -> Answer
+pub(crate) fn ask(dump: &Dump<Words<'_>, Words<'_>>, line: &[u8]) -> Answer
     ensures { result ≡ answer_for (dump_in dump.now.bank.words.now) line.now }
 {
     ask_under::<Brand>(dump, line, Blank::new(1))
@@ -88,7 +92,7 @@ pub(crate) fn ask(dump: &Dump<Words<'_>>, line: &[u8]) -> Answer
 /// What a dump answers each of the lines, in order: how it is told, and the number, 0 where there
 /// is none.
 pub(crate) fn ask_all(
-    dump: &Dump<Words<'_>>,
+    dump: &Dump<Words<'_>, Words<'_>>,
     lines: &[&[u8]],
     values: &mut [u64],
     statuses: &mut [u8],

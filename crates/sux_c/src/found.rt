@@ -20,14 +20,17 @@ pub struct SuxFound {
     pub header: SuxHeader,
     pub count: usize,
     pub places: [SuxPlace; 11],
+    /// The length of the longest extent of the nodes of a dump of kind `zfast`.
+    pub longest: u32,
 }
 
 impl SuxFound {
-    /// The numbers of what was found.
-    pub fn of(opened: &Opened) -> SuxFound
+    /// The numbers of what was found, and the length of the longest extent.
+    pub fn of(opened: &Opened, longest: u32) -> SuxFound
         ensures header { header_in result.header ≡ opened.now.header }
         ensures places { places_in result ≡ opened.now.places.items }
         ensures few { result.count ≤ 11 }
+        ensures longest { result.longest ≡ longest }
     {
         let listed = opened.places.as_slice();
         let mut places = [SuxPlace::of(&Place::default()); MOST];
@@ -38,6 +41,7 @@ impl SuxFound {
             header: SuxHeader::of(&opened.header),
             count: listed.len(),
             places,
+            longest,
         }
     }
 

@@ -13,6 +13,7 @@ mod keys;
 mod opening;
 mod place;
 mod plan;
+mod rooms;
 mod status;
 #[cfg(test)]
 mod tests;

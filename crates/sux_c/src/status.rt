@@ -15,9 +15,6 @@ pub const NO_NUMBER: u8 = 3;
 /// The words are no dump, or the handle isn't open.
 pub const NO_DUMP: u8 = 4;
 
-/// The words are a dump of a kind that isn't asked in process.
-pub const NOT_SERVED: u8 = 5;
-
 /// A key breaks a rule.
 pub const BAD_KEY: u8 = 6;
 
@@ -27,7 +24,7 @@ pub const BAD_PLAN: u8 = 7;
 /// No seed works.
 pub const NO_SEED: u8 = 8;
 
-/// There are fewer words of room than the dump takes.
+/// There are fewer words of room than are put there.
 pub const NO_ROOM: u8 = 9;
 
 /// Memory is wanting.

@@ -8,6 +8,7 @@ use crate::header::SuxHeader;
 use crate::opening::sux_open;
 use crate::place::SuxPlace;
 use crate::plan::SuxPlan;
+use crate::rooms::SuxRooms;
 use crate::told::{SuxFailures, SuxTold};
 use std::alloc::Global;
 use std::test::Fail;
@@ -84,6 +85,7 @@ const HOLLOW: [u64; 17] = [
 fn closed() -> SuxDump<'static> {
     SuxDump {
         words: &[],
+        rooms: SuxRooms::none(),
         found: SuxFound {
             header: SuxHeader {
                 seed: 0,
@@ -104,16 +106,25 @@ fn closed() -> SuxDump<'static> {
                 body: 0,
                 after: 0,
             }; 11],
+            longest: 0,
         },
         opened: false,
     }
 }
 
-/// What an opening comes to: how it is told, and the check that failed, 0 where none did.
-fn opening(words: &'static [u64], bytes: u64, dump: &mut SuxDump<'static>) -> (u8, u8) {
+/// What an opening comes to: how it is told, the check that failed, 0 where none did, and the words
+/// of room that are wanted, 0 where there are enough.
+fn opening<'a>(
+    alloc: Global,
+    words: &'a [u64],
+    bytes: u64,
+    room: &'a mut [u64],
+    dump: &mut SuxDump<'a>,
+) -> (u8, u8, u64) {
     let mut check = 0;
-    let status = sux_open(words, bytes, dump, &mut check);
-    (status, check)
+    let mut wanted = 0;
+    let status = sux_open(alloc, words, bytes, room, dump, &mut check, &mut wanted);
+    (status, check, wanted)
 }
 
 /// What a line comes to: how it is told, and its number, 9 where there is none.
@@ -129,9 +140,9 @@ fn told(dump: &SuxDump<'_>) -> (u8, u64, u64) {
 }
 
 /// The open dump of the letters.
-fn letters() -> SuxDump<'static> {
+fn letters(alloc: Global) -> SuxDump<'static> {
     let mut dump = closed();
-    let _ = opening(&LETTERS, 160, &mut dump);
+    let _ = opening(alloc, &LETTERS, 160, &mut [], &mut dump);
     dump
 }
 
@@ -145,7 +156,7 @@ fn a_closed_handle_answers_nothing(rt: HostRuntime) -> Result<(), Fail> {
 
 #[test]
 fn an_open_dump_is_asked(rt: HostRuntime) -> Result<(), Fail> {
-    let dump = letters();
+    let dump = letters(rt.alloc());
     assert_eq!(rt; told(&dump), (1, 4, 20));
     assert_eq!(rt; asked(&dump, b"c"), (0, 2));
     let mut long = [0; 8192];
@@ -156,7 +167,7 @@ fn an_open_dump_is_asked(rt: HostRuntime) -> Result<(), Fail> {
 
 #[test]
 fn lines_are_answered_in_their_order(rt: HostRuntime) -> Result<(), Fail> {
-    let dump = letters();
+    let dump = letters(rt.alloc());
     let lines: [&[u8]; 3] = [b"b", b"", b"d"];
     let mut values = [9, 9, 9];
     let mut statuses = [9, 9, 9];
@@ -172,19 +183,38 @@ fn lines_are_answered_in_their_order(rt: HostRuntime) -> Result<(), Fail> {
 
 #[test]
 fn words_that_are_no_dump_close_the_handle(rt: HostRuntime) -> Result<(), Fail> {
-    let mut dump = letters();
-    assert_eq!(rt; opening(&LETTERS, 168, &mut dump), (2, 0));
+    let mut dump = letters(rt.alloc());
+    assert_eq!(rt;
+        opening(rt.alloc(), &LETTERS, 168, &mut [], &mut dump),
+        (2, 0, 0)
+    );
     assert_eq!(rt; asked(&dump, b"a"), (4, 9));
-    assert_eq!(rt; opening(&LETTERS, 159, &mut dump), (4, 1));
-    assert_eq!(rt; opening(&CUT, 152, &mut dump), (4, 3));
+    assert_eq!(rt;
+        opening(rt.alloc(), &LETTERS, 159, &mut [], &mut dump),
+        (4, 1, 0)
+    );
+    assert_eq!(rt;
+        opening(rt.alloc(), &CUT, 152, &mut [], &mut dump),
+        (4, 3, 0)
+    );
     Ok(())
 }
 
 #[test]
-fn a_hollow_trie_is_checked_and_not_served(rt: HostRuntime) -> Result<(), Fail> {
-    let mut dump = letters();
-    assert_eq!(rt; opening(&HOLLOW, 136, &mut dump), (5, 0));
+fn a_hollow_trie_is_asked_in_room_that_is_given(rt: HostRuntime) -> Result<(), Fail> {
+    let mut room = [9; 5];
+    let mut dump = letters(rt.alloc());
+    assert_eq!(rt;
+        opening(rt.alloc(), &HOLLOW, 136, &mut [], &mut dump),
+        (9, 0, 4)
+    );
     assert_eq!(rt; asked(&dump, b"a"), (4, 9));
+    assert_eq!(rt;
+        opening(rt.alloc(), &HOLLOW, 136, &mut room, &mut dump),
+        (0, 0, 0)
+    );
+    assert_eq!(rt; told(&dump), (3, 3, 17));
+    assert_eq!(rt; (asked(&dump, b"a"), asked(&dump, b"c")), ((0, 0), (0, 2)));
     Ok(())
 }
 
